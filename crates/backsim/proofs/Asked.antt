@@ -1,9 +1,8 @@
 -- What is said of a session is said of the words that ask for it.
 use Rattle.std.proofs.Common.{◌≡◌, ℕ, ◌≤◌, ◌<◌, ◌⊎◌, inl, inr, Option, Some, None, Result, Err, Ok, refl, subst, ap, option_map, ◌∙◌, sym, arith, List, length}
 use Rattle.owned_text.specs.Made.{Made}
-use Rattle.backsim_io.specs.Counts.{Grows, GrowsByPrefix}
 use Rattle.backsim_io.specs.FilesInMemory.{Places}
-use Rattle.backsim_io.specs.State.{FilesState, SourceState, Rises}
+use Rattle.backsim_io.specs.State.{FilesState, SourceState}
 use Rattle.circuit_files.specs.Files.{netlist_of, first_two, design_of_files}
 use Rattle.circuit_files.specs.Stops.{AnswersFirst}
 use Rattle.circuit_files.specs.Texts.{refusal_text}
@@ -16,14 +15,17 @@ use Rattle.session_loop.specs.Outside.{Outside}
 use Rattle.backsim.specs.Broken.{Leaves, LeavesOpen, OnFileFault}
 use Rattle.backsim.specs.Cause.{counts_in, NoneRose, Explains}
 use Rattle.backsim.specs.Commands.{Command, command_of}
-use Rattle.backsim.specs.Refused.{IsRefused, RefusesFiles, EndsEarly}
+use Rattle.backsim.specs.Refused.{IsRefused, RefusesFiles}
 use Rattle.backsim.specs.Seen.{Seen, files_in, bytes_in, IsUntouched}
 use Rattle.backsim.specs.Texts.{usage}
 use Rattle.backsim.specs.Serves.{ServesSession, ServesWorkload, Serves}
 use Rattle.backsim.specs.Session.{Given, AreGiven, IsServed}
-use Rattle.backsim.proofs.Ends.{grows-nothing, ok-first, early-not_ended}
+use Rattle.backsim.specs.inner.Stops.{Tells}
+use Rattle.backsim.proofs.Ends.{grows-nothing, tells-whole, tells-part, ok-first, IsEarly, early-not_ended}
 use Rattle.backsim.proofs.Explained.{outside_at, none-open, none-unfinished}
-use Rattle.backsim.specs.declared.status.Place.TheVariants.{Netlist, Timing, Stimulus, Journal, Script, Replies, Vcd}
+use Rattle.backsim.specs.declared.status.Input.TheVariants as inputs
+use Rattle.backsim.specs.declared.status.Output.TheVariants as outputs
+use Rattle.backsim.specs.declared.status.NamedFile.TheVariants as named
 use Rattle.backsim.specs.declared.status.Status.{Status}
 use Rattle.backsim.specs.declared.status.Status.TheVariants.{Ended, Words, Refused, ReadFault, WriteFault, FileFault, OutOfMemory}
 
@@ -33,27 +35,14 @@ pub ends-well : (files_read : ℕ) (old new : Outside) (status : Status) → Exp
 ends-well files_read old new Ended e none no_usage refused = inl refl
 ends-well files_read old new Words e none no_usage refused = absurd (no_usage refl)
 ends-well files_read old new Refused e none no_usage refused = absurd (refused refl)
-ends-well files_read old new (ReadFault Netlist) e none no_usage refused = absurd (none.read e.0)
-ends-well files_read old new (ReadFault Timing) e none no_usage refused = absurd (none.read e.0)
-ends-well files_read old new (ReadFault Stimulus) e none no_usage refused = absurd (none.read e.0)
-ends-well files_read old new (ReadFault Script) e none no_usage refused = absurd (none.script e)
-ends-well files_read old new (ReadFault Journal) e none no_usage refused = absurd e
-ends-well files_read old new (ReadFault Replies) e none no_usage refused = absurd e
-ends-well files_read old new (ReadFault Vcd) e none no_usage refused = absurd e
-ends-well files_read old new (WriteFault Replies) e none no_usage refused = absurd (none.replies e)
-ends-well files_read old new (WriteFault Journal) e none no_usage refused = absurd (none.write e)
-ends-well files_read old new (WriteFault Vcd) e none no_usage refused = absurd (none.write e)
-ends-well files_read old new (WriteFault Netlist) e none no_usage refused = absurd e
-ends-well files_read old new (WriteFault Timing) e none no_usage refused = absurd e
-ends-well files_read old new (WriteFault Stimulus) e none no_usage refused = absurd e
-ends-well files_read old new (WriteFault Script) e none no_usage refused = absurd e
-ends-well files_read old new (FileFault Netlist) e none no_usage refused = absurd (none.file e.0)
-ends-well files_read old new (FileFault Timing) e none no_usage refused = absurd (none.file e.0)
-ends-well files_read old new (FileFault Stimulus) e none no_usage refused = absurd (none.file e.0)
-ends-well files_read old new (FileFault Vcd) e none no_usage refused = absurd (none.file e.0)
-ends-well files_read old new (FileFault Journal) e none no_usage refused = absurd (none.file e.0)
-ends-well files_read old new (FileFault Script) e none no_usage refused = absurd e
-ends-well files_read old new (FileFault Replies) e none no_usage refused = absurd e
+ends-well files_read old new (ReadFault (inputs.Circuit file)) e none no_usage refused = absurd (none.read e.0)
+ends-well files_read old new (ReadFault inputs.Script) e none no_usage refused = absurd (none.script e)
+ends-well files_read old new (WriteFault outputs.Replies) e none no_usage refused = absurd (none.replies e)
+ends-well files_read old new (WriteFault outputs.Journal) e none no_usage refused = absurd (none.write e)
+ends-well files_read old new (WriteFault outputs.Vcd) e none no_usage refused = absurd (none.write e)
+ends-well files_read old new (FileFault (named.Circuit file)) e none no_usage refused = absurd (none.file e.0)
+ends-well files_read old new (FileFault named.Journal) e none no_usage refused = absurd (none.file e.0)
+ends-well files_read old new (FileFault named.Vcd) e none no_usage refused = absurd (none.file e.0)
 ends-well files_read old new OutOfMemory e none no_usage refused = inr refl
 
 -- the form that an answer names
@@ -89,7 +78,7 @@ session-complete command before after status explains usage refused given design
 pub record OfAccepted (command : Command) (before after : Seen) (status : Status) : Type 0 where
   pub ended : (given : Given) → AreGiven before command given → status ≡ Ended → IsServed command given before after
   pub refused : (given : Given) → AreGiven before command given → status ≡ Refused → IsRefused command given before after
-  pub script_refused : (given : Given) → AreGiven before command given → 16777216 < length given.script → EndsEarly status
+  pub script_refused : (given : Given) → AreGiven before command given → 16777216 < length given.script → ¬ (status ≡ Ended)
   pub no_usage : ¬ (status ≡ Words)
   pub cause : Explains 3 before.outside after.outside status
   pub leaves : (given : Given) → AreGiven before command given → Leaves command given before after status
@@ -118,7 +107,7 @@ of-accepted command before after status design started first two all says = reco
 }
 
 -- a session that ended early did not end well
-pub early-serves : (command : Command) (given : Given) (before after : Seen) (status : Status) → EndsEarly status → status ≡ Ended → IsServed command given before after
+pub early-serves : (command : Command) (given : Given) (before after : Seen) (status : Status) → IsEarly status → status ≡ Ended → IsServed command given before after
 early-serves command given before after status early is = absurd (early-not_ended status early is)
 
 -- a session that ended
@@ -128,8 +117,8 @@ ended-no-usage is = let e : Ended ≡ Words = is in cc
 pub no-refusal : (command : Command) (given : Given) (before after : Seen) → Ended ≡ Refused → IsRefused command given before after
 no-refusal command given before after is = absurd (let e : Ended ≡ Refused = is in cc)
 
-pub short-script : (given : Given) → length given.script ≤ 16777216 → 16777216 < length given.script → EndsEarly Ended
-short-script given short long = omega (arith, short, long)
+pub short-script : (given : Given) → length given.script ≤ 16777216 → 16777216 < length given.script → ¬ (Ended ≡ Ended)
+short-script given short long is = omega (arith, short, long)
 
 -- What holds of the answer that names a form holds of the words.
 
@@ -144,25 +133,28 @@ on-workload before after status form number journal workers is serves = subst (�
 
 -- words of no form
 pub on-usage : (script : SourceState) (replies new_replies : ℕ) (files : FilesState) (w w' : List ℕ → Type 0) (m : List Made → Type 0) (status : Status) (form : Option Form) → None ≡ form
-    → (status ≡ Words) ⊎ (status ≡ WriteFault Replies) → (status ≡ Words → Grows w w' usage) → GrowsByPrefix w w' usage
-    → (status ≡ Words → new_replies ≡ replies) → (status ≡ WriteFault Replies → Rises replies new_replies)
+    → Tells usage Words replies w new_replies w' status
     → Serves form (record { outside = outside_at script replies files; written = w; made = m }) (record { outside = outside_at script new_replies files; written = w'; made = m }) status
-on-usage script replies new_replies files w w' m status form is ends whole part calm failed =
+on-usage script replies new_replies files w w' m status form is told =
     subst (λ (f : Option Form). Serves f (record { outside = outside_at script replies files; written = w; made = m }) (record { outside = outside_at script new_replies files; written = w'; made = m }) status) is
-    (record { ends = ends-usage status ends; whole = whole; part = part; cause = usage-cause script replies new_replies files status ends calm failed })
+    (record {
+      ends = ends-usage told;
+      whole = λ ended. tells-whole usage Words replies new_replies w w' status told ended (λ e. cc) (λ e. cc);
+      part = tells-part usage Words replies new_replies w w' status told;
+      cause = usage-cause told;
+    })
   where
-    ends-usage : (status : Status) → (status ≡ Words) ⊎ (status ≡ WriteFault Replies) → (status ≡ Words) ⊎ ((status ≡ WriteFault Replies) ⊎ (status ≡ OutOfMemory))
-    ends-usage status (inl is) = inl is
-    ends-usage status (inr is) = inr (inl is)
+    ends-usage : Tells usage Words replies w new_replies w' status → (status ≡ Words) ⊎ ((status ≡ WriteFault outputs.Replies) ⊎ (status ≡ OutOfMemory))
+    ends-usage (inl tells) = inl tells.0
+    ends-usage (inr (inl tells)) = inr (inl tells.0)
+    ends-usage (inr (inr tells)) = inr (inr tells.0)
 
-    usage-cause : (script : SourceState) (replies new_replies : ℕ) (files : FilesState) (status : Status) → (status ≡ Words) ⊎ (status ≡ WriteFault Replies)
-        → (status ≡ Words → new_replies ≡ replies) → (status ≡ WriteFault Replies → Rises replies new_replies)
-        → Explains 0 (outside_at script replies files) (outside_at script new_replies files) status
-    usage-cause script replies new_replies files status (inl is) calm failed =
-        subst (λ (s : Status). Explains 0 (outside_at script replies files) (outside_at script new_replies files) s) (sym is)
-        (record { script = refl; replies = calm is; file = refl; read = refl; write = refl })
-    usage-cause script replies new_replies files status (inr is) calm failed =
-        subst (λ (s : Status). Explains 0 (outside_at script replies files) (outside_at script new_replies files) s) (sym is) (failed is).1
+    usage-cause : Tells usage Words replies w new_replies w' status → Explains 0 (outside_at script replies files) (outside_at script new_replies files) status
+    usage-cause (inl tells) =
+        subst (λ (s : Status). Explains 0 (outside_at script replies files) (outside_at script new_replies files) s) (sym tells.0)
+        (record { script = refl; replies = tells.1; file = refl; read = refl; write = refl })
+    usage-cause (inr (inl tells)) = subst (λ (s : Status). Explains 0 (outside_at script replies files) (outside_at script new_replies files) s) (sym tells.0) tells.1
+    usage-cause (inr (inr tells)) = subst (λ (s : Status). Explains 0 (outside_at script replies files) (outside_at script new_replies files) s) (sym tells.0) tt
 
 -- nothing was refused, since nothing was read
 none-refused : (before : Seen) (n : ℕ) (refusal : FileRefusal) → (files_in before).started ≡ 0 → RefusesFiles n refusal before before OutOfMemory
@@ -199,7 +191,7 @@ no-memory before (Some (Session netlist timing stimulus journal workers shards c
       netlist_refused = λ refusal first held is. none-refused before 1 refusal started;
       timing_refused = λ refusal first second held_first held_second is. none-refused before 2 refusal started;
       files_refused = λ refusal first second third held_first held_second held_third is. none-refused before 3 refusal started;
-      script_refused = λ given are long. tt;
+      script_refused = λ given are long is. let e : OutOfMemory ≡ Ended = is in cc;
       no_usage = λ is. let e : OutOfMemory ≡ Words = is in cc;
       cause = tt;
       leaves = λ given are. inl untouched;

@@ -6,24 +6,28 @@ use Rattle.backsim_io.specs.Counts.{Rose}
 use Rattle.backsim_io.specs.FilesInMemory.{Places}
 use Rattle.backsim_io.specs.State.{FilesState, SourceState}
 use Rattle.circuit_files.specs.Changes.{Opened, StopChanges}
-use Rattle.circuit_files.specs.declared.refusal.CircuitFile.{CircuitFile}
-use Rattle.circuit_files.specs.declared.refusal.CircuitFile.TheVariants as circuit
 use Rattle.circuit_files.specs.declared.stop.FilesStop.{FilesStop}
 use Rattle.circuit_files.specs.declared.stop.FilesStop.TheVariants as stopped
-use Rattle.session_loop.specs.Outside.{Outputs, Outside, Dumped, with_file, Served, SessionHalts}
+use Rattle.circuit_files.specs.Texts.{refusal_text}
+use Rattle.session_loop.specs.Outside.{Outputs, Outside, Dumped, with_file, with_journal, Served, ServedThenStop, JournalStops, SessionHalts}
 use Rattle.session_loop.specs.declared.halt.Halt.{Halt}
-use Rattle.session_loop.specs.declared.halt.Halt.TheVariants.{JournalUnmade, Stopped, JournalUnfinished}
-use Rattle.session_loop.specs.declared.stop.Stop.TheVariants as stops
+use Rattle.session_loop.specs.declared.halt.Halt.TheVariants.{JournalUnmade, Unbegun, Stopped, JournalUnfinished}
+use Rattle.session_loop.specs.declared.stop.JournalStop.{JournalStop}
+use Rattle.session_loop.specs.declared.stop.JournalStop.TheVariants as journal
+use Rattle.session_loop.specs.declared.stop.UnitStop.{UnitStop}
+use Rattle.session_loop.specs.declared.stop.UnitStop.TheVariants as unit
+use Rattle.session_loop.specs.declared.stop.ScriptStop.TheVariants.{Unread, TooLong, Unit}
 use Rattle.backsim.specs.Broken.{JournalAtMost, JournalAlone, JournalAndDump, LeavesOpen}
 use Rattle.backsim.specs.Cause.{Counts, counts_in, started_in, Calm, Explains}
-use Rattle.backsim.specs.inner.Stops.{status_of, place_of, files_stop, stop_of, IsTold, EndsWith, EndExplains}
-use Rattle.backsim.specs.declared.status.Place.TheVariants.{Netlist, Timing, Stimulus, Journal, Script, Replies, Vcd}
+use Rattle.backsim.specs.Texts.{too_long}
+use Rattle.backsim.specs.inner.Statuses.{of_journal, of_unit}
+use Rattle.backsim.specs.inner.Stops.{Tells, EndsAs, EndsByFiles, EndsByHalt}
+use Rattle.backsim.specs.declared.status.Input.TheVariants as inputs
+use Rattle.backsim.specs.declared.status.Output.TheVariants as outputs
+use Rattle.backsim.specs.declared.status.NamedFile.TheVariants as named
 use Rattle.backsim.specs.declared.status.Status.{Status}
-use Rattle.backsim.specs.declared.status.Status.TheVariants as statuses
-use Rattle.backsim.specs.declared.refusal.Refusal.{Refusal}
-use Rattle.backsim.specs.declared.refusal.Refusal.TheVariants.{OfFiles, ScriptTooLong}
-use Rattle.backsim.specs.declared.refusal.Stop.{Stop}
-use Rattle.backsim.specs.declared.refusal.Stop.TheVariants.{Refused, ReadFault, WriteFault, FileFault, OutOfMemory}
+use Rattle.backsim.specs.declared.status.Status.TheVariants.{Ended, Words, Refused, ReadFault, WriteFault, FileFault, OutOfMemory}
+use Rattle.backsim.proofs.Ends.{tells-all}
 
 abbrev pub outside_at : SourceState → ℕ → FilesState → Outside
 outside_at script replies files = record { outputs = record { files = files; replies = replies }; script = script }
@@ -46,31 +50,38 @@ calm-then old mid new a b = record {
 
 -- what is explained from a time on is from an earlier one, if no count of faults changed in between
 explains-from : (files_read : ℕ) (old mid new : Outside) (status : Status) → Calm (counts_in old) (counts_in mid) → Explains files_read mid new status → Explains files_read old new status
-explains-from files_read old mid new statuses.Ended calm e = calm-then (counts_in old) (counts_in mid) (counts_in new) calm e
-explains-from files_read old mid new statuses.Words calm e = calm-then (counts_in old) (counts_in mid) (counts_in new) calm e
-explains-from files_read old mid new statuses.Refused calm e = calm-then (counts_in old) (counts_in mid) (counts_in new) calm e
-explains-from files_read old mid new (statuses.ReadFault Netlist) calm e = (subst (λ (k : ℕ). Rose k (counts_in new).read) calm.read e.0, e.1)
-explains-from files_read old mid new (statuses.ReadFault Timing) calm e = (subst (λ (k : ℕ). Rose k (counts_in new).read) calm.read e.0, e.1)
-explains-from files_read old mid new (statuses.ReadFault Stimulus) calm e = (subst (λ (k : ℕ). Rose k (counts_in new).read) calm.read e.0, e.1)
-explains-from files_read old mid new (statuses.ReadFault Script) calm e = subst (λ (k : ℕ). Rose k (counts_in new).script) calm.script e
-explains-from files_read old mid new (statuses.ReadFault Journal) calm e = absurd e
-explains-from files_read old mid new (statuses.ReadFault Replies) calm e = absurd e
-explains-from files_read old mid new (statuses.ReadFault Vcd) calm e = absurd e
-explains-from files_read old mid new (statuses.WriteFault Replies) calm e = subst (λ (k : ℕ). Rose k (counts_in new).replies) calm.replies e
-explains-from files_read old mid new (statuses.WriteFault Journal) calm e = subst (λ (k : ℕ). Rose k (counts_in new).write) calm.write e
-explains-from files_read old mid new (statuses.WriteFault Vcd) calm e = subst (λ (k : ℕ). Rose k (counts_in new).write) calm.write e
-explains-from files_read old mid new (statuses.WriteFault Netlist) calm e = absurd e
-explains-from files_read old mid new (statuses.WriteFault Timing) calm e = absurd e
-explains-from files_read old mid new (statuses.WriteFault Stimulus) calm e = absurd e
-explains-from files_read old mid new (statuses.WriteFault Script) calm e = absurd e
-explains-from files_read old mid new (statuses.FileFault Netlist) calm e = (subst (λ (k : ℕ). Rose k (counts_in new).file) calm.file e.0, e.1)
-explains-from files_read old mid new (statuses.FileFault Timing) calm e = (subst (λ (k : ℕ). Rose k (counts_in new).file) calm.file e.0, e.1)
-explains-from files_read old mid new (statuses.FileFault Stimulus) calm e = (subst (λ (k : ℕ). Rose k (counts_in new).file) calm.file e.0, e.1)
-explains-from files_read old mid new (statuses.FileFault Journal) calm e = (subst (λ (k : ℕ). Rose k (counts_in new).file) calm.file e.0, e.1)
-explains-from files_read old mid new (statuses.FileFault Vcd) calm e = (subst (λ (k : ℕ). Rose k (counts_in new).file) calm.file e.0, e.1)
-explains-from files_read old mid new (statuses.FileFault Script) calm e = absurd e
-explains-from files_read old mid new (statuses.FileFault Replies) calm e = absurd e
-explains-from files_read old mid new statuses.OutOfMemory calm e = tt
+explains-from files_read old mid new Ended calm e = calm-then (counts_in old) (counts_in mid) (counts_in new) calm e
+explains-from files_read old mid new Words calm e = calm-then (counts_in old) (counts_in mid) (counts_in new) calm e
+explains-from files_read old mid new Refused calm e = calm-then (counts_in old) (counts_in mid) (counts_in new) calm e
+explains-from files_read old mid new (ReadFault (inputs.Circuit file)) calm e = (subst (λ (k : ℕ). Rose k (counts_in new).read) calm.read e.0, e.1)
+explains-from files_read old mid new (ReadFault inputs.Script) calm e = subst (λ (k : ℕ). Rose k (counts_in new).script) calm.script e
+explains-from files_read old mid new (WriteFault outputs.Replies) calm e = subst (λ (k : ℕ). Rose k (counts_in new).replies) calm.replies e
+explains-from files_read old mid new (WriteFault outputs.Journal) calm e = subst (λ (k : ℕ). Rose k (counts_in new).write) calm.write e
+explains-from files_read old mid new (WriteFault outputs.Vcd) calm e = subst (λ (k : ℕ). Rose k (counts_in new).write) calm.write e
+explains-from files_read old mid new (FileFault (named.Circuit file)) calm e = (subst (λ (k : ℕ). Rose k (counts_in new).file) calm.file e.0, e.1)
+explains-from files_read old mid new (FileFault named.Journal) calm e = (subst (λ (k : ℕ). Rose k (counts_in new).file) calm.file e.0, e.1)
+explains-from files_read old mid new (FileFault named.Vcd) calm e = (subst (λ (k : ℕ). Rose k (counts_in new).file) calm.file e.0, e.1)
+explains-from files_read old mid new OutOfMemory calm e = tt
+
+-- The end.
+
+-- nothing was told, and the status is this one
+ends-as : (files_read : ℕ) (old mid : Outside) (replies : ℕ) (w w' : List ℕ → Type 0) (status met : Status) → Explains files_read old mid met → EndsAs met mid.outputs.replies w replies w' status
+    → Explains files_read old (with_replies mid replies) status
+ends-as files_read old mid replies w w' status met e told =
+    subst (λ (s : Status). Explains files_read old (with_replies mid replies) s) (sym told.0)
+    (subst (λ (n : ℕ). Explains files_read old (with_replies mid n) met) (sym told.1) e)
+
+-- a refusal was told, or was not
+tells-explain : (files_read : ℕ) (old mid : Outside) (replies : ℕ) (text : List ℕ) (w w' : List ℕ → Type 0) (status : Status) → Calm (counts_in old) (counts_in mid)
+    → Tells text Refused mid.outputs.replies w replies w' status → Explains files_read old (with_replies mid replies) status
+tells-explain files_read old mid replies text w w' status calm (inl tells) =
+    subst (λ (s : Status). Explains files_read old (with_replies mid replies) s) (sym tells.0)
+    (record { script = calm.script; replies = tells.1 ∙ calm.replies; file = calm.file; read = calm.read; write = calm.write })
+tells-explain files_read old mid replies text w w' status calm (inr (inl tells)) =
+    subst (λ (s : Status). Explains files_read old (with_replies mid replies) s) (sym tells.0) (subst (λ (n : ℕ). Rose n replies) calm.replies tells.1)
+tells-explain files_read old mid replies text w w' status calm (inr (inr tells)) =
+    subst (λ (s : Status). Explains files_read old (with_replies mid replies) s) (sym tells.0) tt
 
 -- The three files.
 
@@ -85,16 +96,16 @@ calm-files script replies many old new opened = record {
 }
 
 -- they make no design
-pub files-explain : (script : SourceState) (replies : ℕ) (old new : FilesState) (stop : FilesStop) → StopChanges old new stop
-    → Explains 3 (outside_at script replies old) (outside_at script replies new) (status_of (files_stop stop))
-files-explain script replies old new (stopped.Refused refusal) e = calm-files script replies e.many old new e.opened
-files-explain script replies old new (stopped.NotOpened circuit.Netlist) e = (e.rises.1, ap (λ (s : FilesState). s.started) e.same)
-files-explain script replies old new (stopped.NotOpened circuit.Timing) e = (e.rises.1, ap (λ (s : FilesState). s.started) e.same)
-files-explain script replies old new (stopped.NotOpened circuit.Stimulus) e = (e.rises.1, ap (λ (s : FilesState). s.started) e.same)
-files-explain script replies old new (stopped.Unread circuit.Netlist) e = (e.rises.1, ap (λ (s : FilesState). s.started) e.same)
-files-explain script replies old new (stopped.Unread circuit.Timing) e = (e.rises.1, ap (λ (s : FilesState). s.started) e.same)
-files-explain script replies old new (stopped.Unread circuit.Stimulus) e = (e.rises.1, ap (λ (s : FilesState). s.started) e.same)
-files-explain script replies old new stopped.OutOfMemory e = tt
+pub files-explain : (script : SourceState) (n n' : ℕ) (old new : FilesState) (w w' : List ℕ → Type 0) (stop : FilesStop) (status : Status) → StopChanges old new stop
+    → EndsByFiles stop n w n' w' status → Explains 3 (outside_at script n old) (outside_at script n' new) status
+files-explain script n n' old new w w' (stopped.Refused refusal) status e told =
+    tells-explain 3 (outside_at script n old) (outside_at script n new) n' (refusal_text refusal) w w' status (calm-files script n e.many old new e.opened) told
+files-explain script n n' old new w w' (stopped.NotOpened file) status e told =
+    ends-as 3 (outside_at script n old) (outside_at script n new) n' w w' status (FileFault (named.Circuit file)) (e.rises.1, ap (λ (s : FilesState). s.started) e.same) told
+files-explain script n n' old new w w' (stopped.Unread file) status e told =
+    ends-as 3 (outside_at script n old) (outside_at script n new) n' w w' status (ReadFault (inputs.Circuit file)) (e.rises.1, ap (λ (s : FilesState). s.started) e.same) told
+files-explain script n n' old new w w' stopped.OutOfMemory status e told =
+    ends-as 3 (outside_at script n old) (outside_at script n new) n' w w' status OutOfMemory tt told
 
 -- no file was created or finished
 pub files-kept : (old new : FilesState) (stop : FilesStop) → StopChanges old new stop → (new.created ≡ old.created) × (new.unfinished ≡ old.unfinished)
@@ -119,60 +130,47 @@ calm-served old new served = record {
 dumped-started : (old new : FilesState) → Dumped old new → new.started ≡ old.started
 dumped-started old new dumped = ap (λ (s : FilesState). s.started) dumped.same
 
-halt-explains : (old new : Outside) (halt : Halt) → started_in old ≡ 3 → SessionHalts old new halt → Explains 3 old new (status_of (stop_of halt))
-halt-explains old new JournalUnmade three e = (e.outputs.changed.rises.1, ap (λ (s : FilesState). s.started) e.outputs.changed.same ∙ three)
-halt-explains old new JournalUnfinished three e = (e.outputs.changed.rises.1, ap (λ (s : FilesState). s.started) e.outputs.changed.same ∙ three)
-halt-explains old new (Stopped stops.ScriptUnread) three e = e.rises.1
-halt-explains old new (Stopped stops.ScriptTooLong) three e = record {
-  script = e.read;
-  replies = ap (λ (o : Outputs). o.replies) e.outputs.same;
-  file = ap (λ (s : FilesState). s.file_faults) e.outputs.changed.same;
-  read = ap (λ (s : FilesState). s.read_faults) e.outputs.changed.same;
-  write = ap (λ (s : FilesState). s.write_faults) e.outputs.changed.same;
-}
-halt-explains old new (Stopped stops.RepliesUnwritten) three e = e.outputs.stops.rises.1
-halt-explains old new (Stopped stops.JournalUnwritten) three e =
+-- the head of the journal was not written
+journal-explains : (old new : Outside) (stop : JournalStop) → JournalStops (with_file old.outputs.files) new.outputs.files stop → Explains 3 old new (of_journal stop)
+journal-explains old new journal.Unwritten fault = fault.rises.1
+journal-explains old new journal.OutOfMemory same = tt
+
+-- a unit was not served
+unit-explains : (old new : Outside) (stop : UnitStop) → started_in old ≡ 3 → ServedThenStop (with_journal old) new stop → Explains 3 old new (of_unit stop)
+unit-explains old new unit.RepliesUnwritten three e = e.outputs.stops.rises.1
+unit-explains old new unit.JournalUnwritten three e =
     subst (λ (k : ℕ). Rose k new.outputs.files.write_faults) (ap (λ (s : FilesState). s.write_faults) e.outputs.dumped.same) e.outputs.stops.changed.rises.1
-halt-explains old new (Stopped stops.DumpUnmade) three e = (
+unit-explains old new unit.DumpUnmade three e = (
   subst (λ (k : ℕ). Rose k new.outputs.files.file_faults) (ap (λ (s : FilesState). s.file_faults) e.outputs.dumped.same) e.outputs.stops.changed.rises.1,
   ap (λ (s : FilesState). s.started) e.outputs.stops.changed.same ∙ (dumped-started (with_file old.outputs.files) e.outputs.files e.outputs.dumped ∙ three),
 )
-halt-explains old new (Stopped stops.DumpUnwritten) three e =
+unit-explains old new unit.DumpUnwritten three e =
     subst (λ (k : ℕ). Rose k new.outputs.files.write_faults) (ap (λ (s : FilesState). s.write_faults) e.outputs.dumped.same) e.outputs.stops.changed.rises.1
-halt-explains old new (Stopped stops.DumpUnfinished) three e = (
+unit-explains old new unit.DumpUnfinished three e = (
   subst (λ (k : ℕ). Rose k new.outputs.files.file_faults) (ap (λ (s : FilesState). s.file_faults) e.outputs.dumped.same) e.outputs.stops.changed.rises.1,
   ap (λ (s : FilesState). s.started) e.outputs.stops.changed.same ∙ (dumped-started (with_file old.outputs.files) e.outputs.files e.outputs.dumped ∙ three),
 )
-halt-explains old new (Stopped stops.OutOfMemory) three e = tt
-
--- The end.
-
--- a stop that is no refusal ends with its status
-same-end : (files_read : ℕ) (old mid : Outside) (replies : ℕ) (status met : Status) → Explains files_read old mid met → (status ≡ met) × (replies ≡ mid.outputs.replies)
-    → Explains files_read old (with_replies mid replies) status
-same-end files_read old mid replies status met e same =
-    subst (λ (s : Status). Explains files_read old (with_replies mid replies) s) (sym same.0)
-    (subst (λ (n : ℕ). Explains files_read old (with_replies mid n) met) (sym same.1) e)
-
--- a stop's refusal was told, or was not
-pub end-explains : (files_read : ℕ) (old mid : Outside) (replies : ℕ) (stop : Stop) (status : Status)
-    → Explains files_read old mid (status_of stop) → EndExplains stop mid.outputs.replies replies status → Explains files_read old (with_replies mid replies) status
-end-explains files_read old mid replies (Refused refusal) statuses.Refused e told =
-    record { script = e.script; replies = told ∙ e.replies; file = e.file; read = e.read; write = e.write }
-end-explains files_read old mid replies (Refused refusal) (statuses.WriteFault Replies) e told = subst (λ (n : ℕ). Rose n replies) e.replies told
-end-explains files_read old mid replies (Refused refusal) statuses.OutOfMemory e told = tt
-end-explains files_read old mid replies (Refused refusal) _ e told = absurd told
-end-explains files_read old mid replies (ReadFault place) status e told = same-end files_read old mid replies status (statuses.ReadFault place) e told
-end-explains files_read old mid replies (WriteFault place) status e told = same-end files_read old mid replies status (statuses.WriteFault place) e told
-end-explains files_read old mid replies (FileFault place) status e told = same-end files_read old mid replies status (statuses.FileFault place) e told
-end-explains files_read old mid replies OutOfMemory status e told = same-end files_read old mid replies status statuses.OutOfMemory e told
+unit-explains old new unit.OutOfMemory three e = tt
 
 -- a halt of the session's loop behind the three files, and the end of the session
-pub halt-ends : (old mid new : Outside) (replies : ℕ) (halt : Halt) (stop : Stop) (status : Status) → Calm (counts_in old) (counts_in mid) → started_in mid ≡ 3
-    → SessionHalts mid new halt → stop ≡ stop_of halt → EndExplains stop new.outputs.replies replies status → Explains 3 old (with_replies new replies) status
-halt-ends old mid new replies halt stop status calm three changes is told =
-    end-explains 3 old new replies (stop_of halt) status (explains-from 3 old mid new (status_of (stop_of halt)) calm (halt-explains mid new halt three changes))
-    (subst (λ (s : Stop). EndExplains s new.outputs.replies replies status) is told)
+module _ (old mid new : Outside) (replies : ℕ) (w w' : List ℕ → Type 0) (status : Status) (calm : Calm (counts_in old) (counts_in mid)) (three : started_in mid ≡ 3) where
+  -- nothing was told
+  halt-as : (met : Status) → Explains 3 mid new met → EndsAs met new.outputs.replies w replies w' status → Explains 3 old (with_replies new replies) status
+  halt-as met e told = ends-as 3 old new replies w w' status met (explains-from 3 old mid new met calm e) told
+
+  pub halt-ends : (halt : Halt) → SessionHalts mid new halt → EndsByHalt halt new.outputs.replies w replies w' status → Explains 3 old (with_replies new replies) status
+  halt-ends JournalUnmade e told = halt-as (FileFault named.Journal) (e.outputs.changed.rises.1, ap (λ (s : FilesState). s.started) e.outputs.changed.same ∙ three) told
+  halt-ends (Unbegun stop) e told = halt-as (of_journal stop) (journal-explains mid new stop e.outputs.changed) told
+  halt-ends (Stopped Unread) e told = halt-as (ReadFault inputs.Script) e.rises.1 told
+  halt-ends (Stopped TooLong) e told =
+      tells-explain 3 old new replies too_long w w' status
+      (calm-then (counts_in old) (counts_in mid) (counts_in new) calm (calm-counts (calm-served (with_journal mid) new e))) told
+    where
+      -- the creation of the journal changes no count
+      calm-counts : Calm (counts_in (with_journal mid)) (counts_in new) → Calm (counts_in mid) (counts_in new)
+      calm-counts is = record { script = is.script; replies = is.replies; file = is.file; read = is.read; write = is.write }
+  halt-ends (Stopped (Unit stop)) e told = halt-as (of_unit stop) (unit-explains mid new stop three e) told
+  halt-ends JournalUnfinished e told = halt-as (FileFault named.Journal) (e.outputs.changed.rises.1, ap (λ (s : FilesState). s.started) e.outputs.changed.same ∙ three) told
 
 -- Which files are unfinished.
 
@@ -187,24 +185,13 @@ none-open files none = subst (All (λ place. place ≡ 0)) (sym none) (All-nil (
 one-open : (files : FilesState) → JournalAlone files → JournalAtMost files
 one-open files one = subst (All (λ place. place ≡ 0)) (sym one) (All-cons (λ (place : ℕ). place ≡ 0) 0 [] refl (All-nil (λ (place : ℕ). place ≡ 0)))
 
--- a refusal was told, or was not
-told-open : (files : FilesState) (refusal : Refusal) (w w' : List ℕ → Type 0) (status : Status) → JournalAtMost files → IsTold refusal w w' status → LeavesOpen files status
-told-open files refusal w w' statuses.Refused are told = are
-told-open files refusal w w' (statuses.WriteFault Replies) are told = are
-told-open files refusal w w' statuses.OutOfMemory are told = are
-told-open files refusal w w' _ are told = absurd told
-
-place-open : (files : FilesState) (file : CircuitFile) → JournalAtMost files → LeavesOpen files (statuses.FileFault (place_of file))
-place-open files circuit.Netlist are = are
-place-open files circuit.Timing are = are
-place-open files circuit.Stimulus are = are
-
 -- the files made no design: none was created
-pub files-open : (files : FilesState) (stop : FilesStop) (w w' : List ℕ → Type 0) (status : Status) → files.unfinished ≡ [] → EndsWith (files_stop stop) w w' status → LeavesOpen files status
-files-open files (stopped.Refused refusal) w w' status none told = told-open files (OfFiles refusal) w w' status (none-open files none) told
-files-open files (stopped.NotOpened file) w w' status none told = subst (LeavesOpen files) (sym told.0) (place-open files file (none-open files none))
-files-open files (stopped.Unread file) w w' status none told = subst (LeavesOpen files) (sym told.0) (none-open files none)
-files-open files stopped.OutOfMemory w w' status none told = subst (LeavesOpen files) (sym told.0) (none-open files none)
+pub files-open : (files : FilesState) (stop : FilesStop) (n n' : ℕ) (w w' : List ℕ → Type 0) (status : Status) → files.unfinished ≡ [] → EndsByFiles stop n w n' w' status → LeavesOpen files status
+files-open files (stopped.Refused refusal) n n' w w' status none told =
+    tells-all (LeavesOpen files) (refusal_text refusal) Refused n n' w w' status told (none-open files none) (none-open files none) (none-open files none)
+files-open files (stopped.NotOpened file) n n' w w' status none told = subst (LeavesOpen files) (sym told.0) (none-open files none)
+files-open files (stopped.Unread file) n n' w w' status none told = subst (LeavesOpen files) (sym told.0) (none-open files none)
+files-open files stopped.OutOfMemory n n' w w' status none told = subst (LeavesOpen files) (sym told.0) (none-open files none)
 
 module _ (old : FilesState) (created : old.created ≡ 0) (none : old.unfinished ≡ []) where
   -- the journal was created
@@ -224,34 +211,37 @@ module _ (old : FilesState) (created : old.created ≡ 0) (none : old.unfinished
     unfinished = is ∙ ap (λ (l : List ℕ). l ++ mid.created ∷ []) (dumped-open mid dumped);
   }
 
+  -- the head of the journal was not written
+  head-open : (stop : JournalStop) (new : FilesState) → JournalStops (with_file old) new stop → LeavesOpen new (of_journal stop)
+  head-open journal.Unwritten new fault = one-open new (ap (λ (s : FilesState). s.unfinished) fault.same ∙ journal-open)
+  head-open journal.OutOfMemory new same = one-open new (ap (λ (s : FilesState). s.unfinished) same ∙ journal-open)
+
 -- the loop halted: of its files the journal is unfinished, and the dump that it stopped in
-pub halt-open : (old new : Outside) (halt : Halt) (w w' : List ℕ → Type 0) (status : Status) → old.outputs.files.created ≡ 0 → old.outputs.files.unfinished ≡ []
-    → SessionHalts old new halt → EndsWith (stop_of halt) w w' status → LeavesOpen new.outputs.files status
-halt-open old new JournalUnmade w w' status created none e told =
-    subst (LeavesOpen new.outputs.files) (sym told.0) (none-open new.outputs.files (ap (λ (s : FilesState). s.unfinished) e.outputs.changed.same ∙ none))
-halt-open old new JournalUnfinished w w' status created none e told =
-    subst (LeavesOpen new.outputs.files) (sym told.0) (one-open new.outputs.files (ap (λ (s : FilesState). s.unfinished) e.outputs.changed.same ∙ journal-open old.outputs.files created none))
-halt-open old new (Stopped stops.ScriptUnread) w w' status created none e told =
-    subst (LeavesOpen new.outputs.files) (sym told.0) (one-open new.outputs.files (dumped-open old.outputs.files created none new.outputs.files e.outputs.changed))
-halt-open old new (Stopped stops.ScriptTooLong) w w' status created none e told =
-    told-open new.outputs.files ScriptTooLong w w' status (one-open new.outputs.files (dumped-open old.outputs.files created none new.outputs.files e.outputs.changed)) told
-halt-open old new (Stopped stops.RepliesUnwritten) w w' status created none e told =
-    subst (LeavesOpen new.outputs.files) (sym told.0) (one-open new.outputs.files
-    (ap (λ (o : Outputs). o.files.unfinished) e.outputs.stops.same ∙ dumped-open old.outputs.files created none e.outputs.files e.outputs.dumped))
-halt-open old new (Stopped stops.JournalUnwritten) w w' status created none e told =
-    subst (LeavesOpen new.outputs.files) (sym told.0) (one-open new.outputs.files
-    (ap (λ (s : FilesState). s.unfinished) e.outputs.stops.changed.same ∙ dumped-open old.outputs.files created none e.outputs.files e.outputs.dumped))
-halt-open old new (Stopped stops.DumpUnmade) w w' status created none e told =
-    subst (LeavesOpen new.outputs.files) (sym told.0)
-    (inl (ap (λ (s : FilesState). s.unfinished) e.outputs.stops.changed.same ∙ dumped-open old.outputs.files created none e.outputs.files e.outputs.dumped))
-halt-open old new (Stopped stops.DumpUnwritten) w w' status created none e told =
-    subst (LeavesOpen new.outputs.files) (sym told.0)
-    (dump-open old.outputs.files created none e.outputs.files new.outputs.files e.outputs.dumped
-    (ap (λ (s : FilesState). s.created) e.outputs.stops.changed.same) (ap (λ (s : FilesState). s.unfinished) e.outputs.stops.changed.same))
-halt-open old new (Stopped stops.DumpUnfinished) w w' status created none e told =
-    subst (LeavesOpen new.outputs.files) (sym told.0)
-    (inr (dump-open old.outputs.files created none e.outputs.files new.outputs.files e.outputs.dumped
-    (ap (λ (s : FilesState). s.created) e.outputs.stops.changed.same) (ap (λ (s : FilesState). s.unfinished) e.outputs.stops.changed.same)))
-halt-open old new (Stopped stops.OutOfMemory) w w' status created none e told =
-    subst (LeavesOpen new.outputs.files) (sym told.0) (one-open new.outputs.files
-    (ap (λ (o : Outputs). o.files.unfinished) e.outputs.stops ∙ dumped-open old.outputs.files created none e.outputs.files e.outputs.dumped))
+module _ (old new : Outside) (created : old.outputs.files.created ≡ 0) (none : old.outputs.files.unfinished ≡ []) where
+  unit-open : (stop : UnitStop) → ServedThenStop (with_journal old) new stop → LeavesOpen new.outputs.files (of_unit stop)
+  unit-open unit.RepliesUnwritten e = one-open new.outputs.files
+      (ap (λ (o : Outputs). o.files.unfinished) e.outputs.stops.same ∙ dumped-open old.outputs.files created none e.outputs.files e.outputs.dumped)
+  unit-open unit.JournalUnwritten e = one-open new.outputs.files
+      (ap (λ (s : FilesState). s.unfinished) e.outputs.stops.changed.same ∙ dumped-open old.outputs.files created none e.outputs.files e.outputs.dumped)
+  unit-open unit.DumpUnmade e = inl (ap (λ (s : FilesState). s.unfinished) e.outputs.stops.changed.same ∙ dumped-open old.outputs.files created none e.outputs.files e.outputs.dumped)
+  unit-open unit.DumpUnwritten e =
+      dump-open old.outputs.files created none e.outputs.files new.outputs.files e.outputs.dumped
+      (ap (λ (s : FilesState). s.created) e.outputs.stops.changed.same) (ap (λ (s : FilesState). s.unfinished) e.outputs.stops.changed.same)
+  unit-open unit.DumpUnfinished e =
+      inr (dump-open old.outputs.files created none e.outputs.files new.outputs.files e.outputs.dumped
+      (ap (λ (s : FilesState). s.created) e.outputs.stops.changed.same) (ap (λ (s : FilesState). s.unfinished) e.outputs.stops.changed.same))
+  unit-open unit.OutOfMemory e = one-open new.outputs.files
+      (ap (λ (o : Outputs). o.files.unfinished) e.outputs.stops ∙ dumped-open old.outputs.files created none e.outputs.files e.outputs.dumped)
+
+  pub halt-open : (halt : Halt) (n n' : ℕ) (w w' : List ℕ → Type 0) (status : Status) → SessionHalts old new halt → EndsByHalt halt n w n' w' status → LeavesOpen new.outputs.files status
+  halt-open JournalUnmade n n' w w' status e told =
+      subst (LeavesOpen new.outputs.files) (sym told.0) (none-open new.outputs.files (ap (λ (s : FilesState). s.unfinished) e.outputs.changed.same ∙ none))
+  halt-open (Unbegun stop) n n' w w' status e told = subst (LeavesOpen new.outputs.files) (sym told.0) (head-open old.outputs.files created none stop new.outputs.files e.outputs.changed)
+  halt-open (Stopped Unread) n n' w w' status e told =
+      subst (LeavesOpen new.outputs.files) (sym told.0) (one-open new.outputs.files (dumped-open old.outputs.files created none new.outputs.files e.outputs.changed))
+  halt-open (Stopped TooLong) n n' w w' status e told =
+      let alone = one-open new.outputs.files (dumped-open old.outputs.files created none new.outputs.files e.outputs.changed) in
+      tells-all (LeavesOpen new.outputs.files) too_long Refused n n' w w' status told alone alone alone
+  halt-open (Stopped (Unit stop)) n n' w w' status e told = subst (LeavesOpen new.outputs.files) (sym told.0) (unit-open stop e)
+  halt-open JournalUnfinished n n' w w' status e told =
+      subst (LeavesOpen new.outputs.files) (sym told.0) (one-open new.outputs.files (ap (λ (s : FilesState). s.unfinished) e.outputs.changed.same ∙ journal-open old.outputs.files created none))

@@ -1,7 +1,7 @@
 -- What stands where the session's loop ends or halts.
-use Rattle.std.proofs.Common.{◌≡◌, ℕ, List, [], ◌++◌, take, drop, Option, Some, Ok, ◌⊎◌, inl, inr, refl, sym, subst, ◌∙◌, append_assoc, append-nil, length}
+use Rattle.std.proofs.Common.{◌≡◌, ℕ, List, [], ◌++◌, take, drop, Option, Some, Ok, inl, inr, refl, sym, subst, ◌∙◌, append_assoc, length}
 use Rattle.std.proofs.lemmas.List.{take-append-drop}
-use Rattle.std.specs.Prelude.{◌≤◌}
+use Rattle.std.specs.Prelude.{⊤, ◌≤◌}
 use Rattle.std.specs.Io.KnownBytes.{IsAtEnd}
 use Rattle.owned_text.specs.Made.{Made}
 use Rattle.backsim_io.specs.Counts.{Grows, GrowsByPrefix, Stays}
@@ -13,24 +13,28 @@ use Rattle.session_meaning.specs.Laws.{SessionsAreWhole}
 use Rattle.session_meaning.specs.Whole.{IsWhole}
 use Rattle.session_meaning.specs.Broken.{IsPrefix, IsCutOff}
 use Rattle.session_loop.specs.Serving.{IsServedUntil, IsBrokenIn, IsJournalBroken, IsDumpBroken}
-use Rattle.session_loop.specs.Halting.{WroteFiles, IsEarly, IsUnbegun, IsHalted}
+use Rattle.session_loop.specs.Halting.{WroteFiles, IsUnbegun, IsHalted}
 use Rattle.session_loop.specs.declared.halt.Halt.{Halt}
-use Rattle.session_loop.specs.declared.halt.Halt.TheVariants.{JournalUnmade, Stopped, JournalUnfinished}
-use Rattle.session_loop.specs.declared.stop.Stop.{Stop as SessionStop}
-use Rattle.session_loop.specs.declared.stop.Stop.TheVariants as stops
+use Rattle.session_loop.specs.declared.halt.Halt.TheVariants.{JournalUnmade, Unbegun, Stopped, JournalUnfinished}
+use Rattle.session_loop.specs.declared.stop.JournalStop.{JournalStop}
+use Rattle.session_loop.specs.declared.stop.JournalStop.TheVariants as journal
+use Rattle.session_loop.specs.declared.stop.UnitStop.{UnitStop}
+use Rattle.session_loop.specs.declared.stop.UnitStop.TheVariants as unit
+use Rattle.session_loop.specs.declared.stop.ScriptStop.TheVariants.{Unread, TooLong, Unit}
 use Rattle.backsim.specs.Broken.{IsInHeadOr, Leaves, OnFileFault}
 use Rattle.backsim.specs.Commands.{Command}
 use Rattle.backsim.specs.Refused.{Followed, IsScriptRefused, IsRefused}
 use Rattle.backsim.specs.Seen.{Seen, left_in, created_in, IsUntouched}
 use Rattle.backsim.specs.Session.{Given, setup_of, OfDesign, Wrote, ServedAll, IsServed}
 use Rattle.backsim.specs.Texts.{too_long}
-use Rattle.backsim.specs.inner.Stops.{stop_of, IsTold, EndsWith}
-use Rattle.backsim.specs.declared.status.Place.TheVariants.{Journal, Script, Replies, Vcd}
+use Rattle.backsim.specs.inner.Statuses.{of_journal, of_unit}
+use Rattle.backsim.specs.inner.Stops.{Tells, EndsAs, EndsByHalt}
+use Rattle.backsim.specs.declared.status.Input.TheVariants as inputs
+use Rattle.backsim.specs.declared.status.Output.TheVariants as outputs
+use Rattle.backsim.specs.declared.status.NamedFile.TheVariants as named
 use Rattle.backsim.specs.declared.status.Status.{Status}
-use Rattle.backsim.specs.declared.status.Status.TheVariants as statuses
-use Rattle.backsim.specs.declared.refusal.Refusal.{Refusal}
-use Rattle.backsim.specs.declared.refusal.Refusal.TheVariants.{ScriptTooLong}
-use Rattle.backsim.specs.declared.refusal.Stop.{Stop}
+use Rattle.backsim.specs.declared.status.Status.TheVariants.{Ended, Words, Refused, ReadFault, WriteFault, FileFault, OutOfMemory}
+use Rattle.backsim.proofs.Ends.{grows-nothing, tells-all, tells-whole, IsEarly}
 
 -- bytes that were written before a call that writes none, or behind one that creates no file
 wrote-between : (such : List ℕ → List ℕ → List Made → Type 0) (name : List ℕ) (w w' w'' : List ℕ → Type 0) (m m' m'' : List Made → Type 0) (n : ℕ)
@@ -71,10 +75,60 @@ wrote-followed such name w w' w'' m m' m'' n tail rest same wrote is grows = rec
   count = wrote.count;
 }
 
+-- The status of a halt.
+
+-- a fault that the loop can meet, or a lack of memory
+abbrev pub IsOfLoop : Status → Type 0
+IsOfLoop (ReadFault inputs.Script) = ⊤
+IsOfLoop (WriteFault output) = ⊤
+IsOfLoop (FileFault named.Journal) = ⊤
+IsOfLoop (FileFault named.Vcd) = ⊤
+IsOfLoop OutOfMemory = ⊤
+IsOfLoop status = ⊥
+
+journal-of-loop : (stop : JournalStop) → IsOfLoop (of_journal stop)
+journal-of-loop journal.Unwritten = tt
+journal-of-loop journal.OutOfMemory = tt
+
+unit-of-loop : (stop : UnitStop) → IsOfLoop (of_unit stop)
+unit-of-loop unit.RepliesUnwritten = tt
+unit-of-loop unit.JournalUnwritten = tt
+unit-of-loop unit.DumpUnmade = tt
+unit-of-loop unit.DumpUnwritten = tt
+unit-of-loop unit.DumpUnfinished = tt
+unit-of-loop unit.OutOfMemory = tt
+
+-- what holds of such statuses, and of a script that is too long, holds of the status of a halt
+halt-all : (P : Status → Type 0) (halt : Halt) (n n' : ℕ) (w w' : List ℕ → Type 0) (status : Status) → EndsByHalt halt n w n' w' status
+    → ((met : Status) → IsOfLoop met → P met) → P Refused → P status
+halt-all P JournalUnmade n n' w w' status told of-loop refused = subst P (sym told.0) (of-loop (FileFault named.Journal) tt)
+halt-all P (Unbegun stop) n n' w w' status told of-loop refused = subst P (sym told.0) (of-loop (of_journal stop) (journal-of-loop stop))
+halt-all P (Stopped Unread) n n' w w' status told of-loop refused = subst P (sym told.0) (of-loop (ReadFault inputs.Script) tt)
+halt-all P (Stopped TooLong) n n' w w' status told of-loop refused = tells-all P too_long Refused n n' w w' status told refused (of-loop (WriteFault outputs.Replies) tt) (of-loop OutOfMemory tt)
+halt-all P (Stopped (Unit stop)) n n' w w' status told of-loop refused = subst P (sym told.0) (of-loop (of_unit stop) (unit-of-loop stop))
+halt-all P JournalUnfinished n n' w w' status told of-loop refused = subst P (sym told.0) (of-loop (FileFault named.Journal) tt)
+
+loop-early : (status : Status) → IsOfLoop status → IsEarly status
+loop-early Ended is = absurd is
+loop-early Words is = absurd is
+loop-early status is = tt
+
+pub halt-early : (halt : Halt) (n n' : ℕ) (w w' : List ℕ → Type 0) (status : Status) → EndsByHalt halt n w n' w' status → IsEarly status
+halt-early halt n n' w w' status told = halt-all IsEarly halt n n' w w' status told loop-early tt
+
+-- no halt is a fault of one of the three files
+loop-no_file : (says : Type 0) (status : Status) → IsOfLoop status → OnFileFault says status
+loop-no_file says (ReadFault (inputs.Circuit file)) is = absurd is
+loop-no_file says (FileFault (named.Circuit file)) is = absurd is
+loop-no_file says status is = tt
+
+pub halt-no_file : (says : Type 0) (halt : Halt) (n n' : ℕ) (w w' : List ℕ → Type 0) (status : Status) → EndsByHalt halt n w n' w' status → OnFileFault says status
+halt-no_file says halt n n' w w' status told = halt-all (OnFileFault says) halt n n' w w' status told (loop-no_file says) tt
+
 -- Behind three files that made a design the loop wrote what it wrote (until the sink holds `w'`, from where the files that were created
 -- are `m'`), and the end of the session a refusal at most.
 module _ (command : Command) (given : Given) (design : Joined) (accepted : design_of_files given.netlist given.timing given.stimulus ≡ Ok design)
-    (before after : Seen) (w' : List ℕ → Type 0) (m' : List Made → Type 0) (same : SameMade before.made m') where
+    (before after : Seen) (n n' : ℕ) (w' : List ℕ → Type 0) (m' : List Made → Type 0) (same : SameMade before.made m') where
   -- what the loop wrote
   abbrev LoopWrote : (List ℕ → List ℕ → List Made → Type 0) → Type 0
   LoopWrote such = WroteFiles such command.journal before.written w' m' after.made (created_in after)
@@ -115,102 +169,71 @@ module _ (command : Command) (given : Given) (design : Joined) (accepted : desig
   cut-begun wrote part =
       cut-off (λ rest. IsPrefix rest too_long) (take part.0 too_long) wrote (drop part.0 too_long, sym (take-append-drop part.0 too_long)) part.1
 
-  -- what it wrote, where it had read the script
-  late : (stop : SessionStop) (such : List ℕ → List ℕ → List Made → Type 0) → (IsEarly stop → ⊥)
-      → LoopWrote (IsUnbegun (setup_of command design) (Some given.script) (left_in after) stop) ⊎ LoopWrote such → LoopWrote such
-  late stop such read (inl begun) = absurd (read begun.are.early)
-  late stop such read (inr wrote) = wrote
-
-  -- what it wrote where it broke off in this way, or in the head of its journal
-  broken-off : (way : Setup → List ℕ → List ℕ → List Made → Type 0) (stop : SessionStop) → Stays w' after.written
-      → LoopWrote (IsUnbegun (setup_of command design) (Some given.script) (left_in after) stop) ⊎ LoopWrote (way (setup_of command design))
+  -- it broke off in the head of its journal
+  in-head : (way : Setup → List ℕ → List ℕ → List Made → Type 0) → Stays w' after.written → LoopWrote (IsUnbegun (setup_of command design) (Some given.script) (left_in after))
       → Wrote command given before after (IsInHeadOr way given.script (left_in after))
-  broken-off way stop stays (inl begun) =
+  in-head way stays wrote =
       stands (IsInHeadOr way given.script (left_in after)) stays
-      (wrote-as (IsUnbegun (setup_of command design) (Some given.script) (left_in after) stop) (IsInHeadOr way given.script (left_in after) (setup_of command design)) command.journal before.written w' m' after.made (created_in after)
-      (λ replies journal dumps is. inl (is.unread, is.head)) begun)
-  broken-off way stop stays (inr wrote) =
+      (wrote-as (IsUnbegun (setup_of command design) (Some given.script) (left_in after)) (IsInHeadOr way given.script (left_in after) (setup_of command design)) command.journal before.written w' m' after.made (created_in after)
+      (λ replies journal dumps is. inl (is.unread, is.head)) wrote)
+
+  -- or behind it, in this way
+  behind-head : (way : Setup → List ℕ → List ℕ → List Made → Type 0) → Stays w' after.written → LoopWrote (way (setup_of command design))
+      → Wrote command given before after (IsInHeadOr way given.script (left_in after))
+  behind-head way stays wrote =
       stands (IsInHeadOr way given.script (left_in after)) stays
       (wrote-as (way (setup_of command design)) (IsInHeadOr way given.script (left_in after) (setup_of command design)) command.journal before.written w' m' after.made (created_in after)
       (λ replies journal dumps is. inr is) wrote)
 
+  not-refused : (met status : Status) → IsOfLoop met → EndsAs met n w' n' after.written status → ¬ (status ≡ Refused)
+  not-refused met status of-loop told is = subst IsOfLoop (sym told.0 ∙ is) of-loop
+
   -- under status 2 the script was too long, and its line was written
-  pub halt-refused : (halt : Halt) (status : Status) → LoopHalted halt → EndsWith (stop_of halt) w' after.written status → status ≡ statuses.Refused → IsRefused command given before after
-  halt-refused (Stopped stops.ScriptTooLong) status halted told is =
-      inr (cut-off (λ rest. rest ≡ too_long) too_long (late stops.ScriptTooLong (IsCutOff (setup_of command design) given.script) (λ early. early) halted) refl (subst (IsTold ScriptTooLong w' after.written) is told))
-  halt-refused JournalUnmade status halted told is = absurd (let e : statuses.FileFault Journal ≡ statuses.Refused = sym told.0 ∙ is in cc)
-  halt-refused JournalUnfinished status halted told is = absurd (let e : statuses.FileFault Journal ≡ statuses.Refused = sym told.0 ∙ is in cc)
-  halt-refused (Stopped stops.ScriptUnread) status halted told is = absurd (let e : statuses.ReadFault Script ≡ statuses.Refused = sym told.0 ∙ is in cc)
-  halt-refused (Stopped stops.RepliesUnwritten) status halted told is = absurd (let e : statuses.WriteFault Replies ≡ statuses.Refused = sym told.0 ∙ is in cc)
-  halt-refused (Stopped stops.JournalUnwritten) status halted told is = absurd (let e : statuses.WriteFault Journal ≡ statuses.Refused = sym told.0 ∙ is in cc)
-  halt-refused (Stopped stops.DumpUnmade) status halted told is = absurd (let e : statuses.FileFault Vcd ≡ statuses.Refused = sym told.0 ∙ is in cc)
-  halt-refused (Stopped stops.DumpUnwritten) status halted told is = absurd (let e : statuses.WriteFault Vcd ≡ statuses.Refused = sym told.0 ∙ is in cc)
-  halt-refused (Stopped stops.DumpUnfinished) status halted told is = absurd (let e : statuses.FileFault Vcd ≡ statuses.Refused = sym told.0 ∙ is in cc)
-  halt-refused (Stopped stops.OutOfMemory) status halted told is = absurd (let e : statuses.OutOfMemory ≡ statuses.Refused = sym told.0 ∙ is in cc)
+  pub halt-refused : (halt : Halt) (status : Status) → LoopHalted halt → EndsByHalt halt n w' n' after.written status → status ≡ Refused → IsRefused command given before after
+  halt-refused JournalUnmade status halted told is = absurd (not-refused (FileFault named.Journal) status tt told is)
+  halt-refused (Unbegun stop) status halted told is = absurd (not-refused (of_journal stop) status (journal-of-loop stop) told is)
+  halt-refused (Stopped Unread) status halted told is = absurd (not-refused (ReadFault inputs.Script) status tt told is)
+  halt-refused (Stopped TooLong) status halted told is =
+      inr (cut-off (λ rest. rest ≡ too_long) too_long halted refl (tells-whole too_long Refused n n' w' after.written status told is (λ e. cc) (λ e. cc)))
+  halt-refused (Stopped (Unit stop)) status halted told is = absurd (not-refused (of_unit stop) status (unit-of-loop stop) told is)
+  halt-refused JournalUnfinished status halted told is = absurd (not-refused (FileFault named.Journal) status tt told is)
 
   -- what stands where the line of a script that is too long was told, or was not
-  long-leaves : (status : Status) → LoopWrote (IsCutOff (setup_of command design) given.script) → IsTold ScriptTooLong w' after.written status → Leaves command given before after status
-  long-leaves statuses.Refused wrote told = tt
-  long-leaves (statuses.WriteFault Replies) wrote told = inr (inr (cut-begun wrote told))
-  long-leaves statuses.OutOfMemory wrote told =
-      inr (inr (inr (cut-begun wrote (0, λ start h. subst after.written (sym (append-nil start)) (told start h)))))
-  long-leaves _ wrote told = absurd told
+  long-leaves : (status : Status) → LoopWrote (IsCutOff (setup_of command design) given.script) → Tells too_long Refused n w' n' after.written status → Leaves command given before after status
+  long-leaves status wrote (inl tells) = subst (Leaves command given before after) (sym tells.0) tt
+  long-leaves status wrote (inr (inl tells)) = subst (Leaves command given before after) (sym tells.0) (inr (inr (cut-begun wrote tells.2)))
+  long-leaves status wrote (inr (inr tells)) =
+      subst (Leaves command given before after) (sym tells.0) (inr (inr (inr (cut-begun wrote (grows-nothing w' after.written too_long tells.2)))))
 
   -- what a halt of the loop leaves
   pub halt-leaves : SessionsAreWhole → IsDesign design → (halt : Halt) (status : Status)
       → (halt ≡ JournalUnmade → Stays w' after.written → IsUntouched before after)
-      → LoopHalted halt → EndsWith (stop_of halt) w' after.written status → Leaves command given before after status
+      → LoopHalted halt → EndsByHalt halt n w' n' after.written status → Leaves command given before after status
   halt-leaves whole_sessions facts JournalUnmade status untouched halted told =
-      subst (Leaves command given before after) (sym told.0) (inl (untouched refl told.1))
+      subst (Leaves command given before after) (sym told.0) (inl (untouched refl told.2))
+  halt-leaves whole_sessions facts (Unbegun journal.Unwritten) status untouched halted told =
+      subst (Leaves command given before after) (sym told.0) (in-head (λ setup. IsJournalBroken setup given.script (left_in after)) told.2 halted)
+  halt-leaves whole_sessions facts (Unbegun journal.OutOfMemory) status untouched halted told =
+      subst (Leaves command given before after) (sym told.0) (inr (inl (in-head (λ setup. IsBrokenIn setup given.script (left_in after)) told.2 halted)))
+  halt-leaves whole_sessions facts (Stopped Unread) status untouched halted told =
+      subst (Leaves command given before after) (sym told.0) (stands (λ setup. IsServedUntil setup given.script (left_in after)) told.2 halted)
+  halt-leaves whole_sessions facts (Stopped TooLong) status untouched halted told = long-leaves status halted told
+  halt-leaves whole_sessions facts (Stopped (Unit unit.RepliesUnwritten)) status untouched halted told =
+      subst (Leaves command given before after) (sym told.0) (inl (stands (λ setup. IsBrokenIn setup given.script (left_in after)) told.2 halted))
+  halt-leaves whole_sessions facts (Stopped (Unit unit.JournalUnwritten)) status untouched halted told =
+      subst (Leaves command given before after) (sym told.0) (behind-head (λ setup. IsJournalBroken setup given.script (left_in after)) told.2 halted)
+  halt-leaves whole_sessions facts (Stopped (Unit unit.DumpUnmade)) status untouched halted told =
+      subst (Leaves command given before after) (sym told.0) (stands (λ setup. IsDumpBroken setup given.script (left_in after)) told.2 halted)
+  halt-leaves whole_sessions facts (Stopped (Unit unit.DumpUnwritten)) status untouched halted told =
+      subst (Leaves command given before after) (sym told.0) (stands (λ setup. IsDumpBroken setup given.script (left_in after)) told.2 halted)
+  halt-leaves whole_sessions facts (Stopped (Unit unit.DumpUnfinished)) status untouched halted told =
+      subst (Leaves command given before after) (sym told.0) (stands (λ setup. IsDumpBroken setup given.script (left_in after)) told.2 halted)
+  halt-leaves whole_sessions facts (Stopped (Unit unit.OutOfMemory)) status untouched halted told =
+      subst (Leaves command given before after) (sym told.0) (inr (inl (behind-head (λ setup. IsBrokenIn setup given.script (left_in after)) told.2 halted)))
   halt-leaves whole_sessions facts JournalUnfinished status untouched halted told =
-      subst (Leaves command given before after) (sym told.0) (inr (served-all whole_sessions facts told.1 halted.0 halted.1 halted.2))
-  halt-leaves whole_sessions facts (Stopped stops.ScriptUnread) status untouched halted told =
-      subst (Leaves command given before after) (sym told.0)
-      (stands (λ setup. IsServedUntil setup given.script (left_in after)) told.1
-      (late stops.ScriptUnread (IsServedUntil (setup_of command design) given.script (left_in after)) (λ early. early) halted))
-  halt-leaves whole_sessions facts (Stopped stops.ScriptTooLong) status untouched halted told =
-      long-leaves status (late stops.ScriptTooLong (IsCutOff (setup_of command design) given.script) (λ early. early) halted) told
-  halt-leaves whole_sessions facts (Stopped stops.RepliesUnwritten) status untouched halted told =
-      subst (Leaves command given before after) (sym told.0)
-      (inl (stands (λ setup. IsBrokenIn setup given.script (left_in after)) told.1 (late stops.RepliesUnwritten (IsBrokenIn (setup_of command design) given.script (left_in after)) (λ early. early) halted)))
-  halt-leaves whole_sessions facts (Stopped stops.JournalUnwritten) status untouched halted told =
-      subst (Leaves command given before after) (sym told.0) (broken-off (λ setup. IsJournalBroken setup given.script (left_in after)) stops.JournalUnwritten told.1 halted)
-  halt-leaves whole_sessions facts (Stopped stops.DumpUnmade) status untouched halted told =
-      subst (Leaves command given before after) (sym told.0)
-      (stands (λ setup. IsDumpBroken setup given.script (left_in after)) told.1 (late stops.DumpUnmade (IsDumpBroken (setup_of command design) given.script (left_in after)) (λ early. early) halted))
-  halt-leaves whole_sessions facts (Stopped stops.DumpUnwritten) status untouched halted told =
-      subst (Leaves command given before after) (sym told.0)
-      (stands (λ setup. IsDumpBroken setup given.script (left_in after)) told.1 (late stops.DumpUnwritten (IsDumpBroken (setup_of command design) given.script (left_in after)) (λ early. early) halted))
-  halt-leaves whole_sessions facts (Stopped stops.DumpUnfinished) status untouched halted told =
-      subst (Leaves command given before after) (sym told.0)
-      (stands (λ setup. IsDumpBroken setup given.script (left_in after)) told.1 (late stops.DumpUnfinished (IsDumpBroken (setup_of command design) given.script (left_in after)) (λ early. early) halted))
-  halt-leaves whole_sessions facts (Stopped stops.OutOfMemory) status untouched halted told =
-      subst (Leaves command given before after) (sym told.0) (inr (inl (broken-off (λ setup. IsBrokenIn setup given.script (left_in after)) stops.OutOfMemory told.1 halted)))
-
--- no halt is a fault of one of the three files
-told-no_fault : (says : Type 0) (refusal : Refusal) (w w' : List ℕ → Type 0) (status : Status) → IsTold refusal w w' status → OnFileFault says status
-told-no_fault says refusal w w' statuses.Refused told = tt
-told-no_fault says refusal w w' (statuses.WriteFault place) told = tt
-told-no_fault says refusal w w' statuses.OutOfMemory told = tt
-told-no_fault says refusal w w' _ told = absurd told
-
-pub halt-no_file : (says : Type 0) (halt : Halt) (w w' : List ℕ → Type 0) (status : Status) → EndsWith (stop_of halt) w w' status → OnFileFault says status
-halt-no_file says JournalUnmade w w' status told = subst (OnFileFault says) (sym told.0) tt
-halt-no_file says JournalUnfinished w w' status told = subst (OnFileFault says) (sym told.0) tt
-halt-no_file says (Stopped stops.ScriptUnread) w w' status told = subst (OnFileFault says) (sym told.0) tt
-halt-no_file says (Stopped stops.ScriptTooLong) w w' status told = told-no_fault says ScriptTooLong w w' status told
-halt-no_file says (Stopped stops.RepliesUnwritten) w w' status told = subst (OnFileFault says) (sym told.0) tt
-halt-no_file says (Stopped stops.JournalUnwritten) w w' status told = subst (OnFileFault says) (sym told.0) tt
-halt-no_file says (Stopped stops.DumpUnmade) w w' status told = subst (OnFileFault says) (sym told.0) tt
-halt-no_file says (Stopped stops.DumpUnwritten) w w' status told = subst (OnFileFault says) (sym told.0) tt
-halt-no_file says (Stopped stops.DumpUnfinished) w w' status told = subst (OnFileFault says) (sym told.0) tt
-halt-no_file says (Stopped stops.OutOfMemory) w w' status told = subst (OnFileFault says) (sym told.0) tt
+      subst (Leaves command given before after) (sym told.0) (inr (served-all whole_sessions facts told.2 halted.0 halted.1 halted.2))
 
 -- what is known of a halt, where the script is told
 pub halted-script : (setup : Setup) (name script : List ℕ) (old_left left : Option (List ℕ)) (w w' : List ℕ → Type 0) (m m' : List Made → Type 0) (n : ℕ) (halt : Halt) → old_left ≡ Some script
     → IsHalted setup name script old_left left w w' m m' n halt → IsHalted setup name script (Some script) left w w' m m' n halt
 halted-script setup name script old_left left w w' m m' n halt is halted = subst (λ (l : Option (List ℕ)). IsHalted setup name script l left w w' m m' n halt) is halted
-
--- a stop that a halt is, under another name
-pub of-halt : (halt : Halt) (stop : Stop) (w w' : List ℕ → Type 0) (status : Status) → stop ≡ stop_of halt → EndsWith stop w w' status → EndsWith (stop_of halt) w w' status
-of-halt halt stop w w' status is told = subst (λ (s : Stop). EndsWith s w w' status) is told

@@ -6,12 +6,13 @@ use Rattle.backsim_io.specs.State.{FilesState}
 use Rattle.session_meaning.specs.Session.{Setup}
 use Rattle.session_meaning.specs.Broken.{IsPrefix, IsHeadBegun}
 use Rattle.session_loop.specs.Serving.{IsServedUntil, IsBrokenIn, IsJournalBroken, IsDumpBroken}
-use Rattle.backsim.specs.declared.status.Place.TheVariants.{Journal, Script, Replies, Vcd}
+use Rattle.backsim.specs.declared.status.Input.TheVariants as inputs
+use Rattle.backsim.specs.declared.status.Output.TheVariants as outputs
+use Rattle.backsim.specs.declared.status.NamedFile.TheVariants as named
 use Rattle.backsim.specs.declared.status.Status.{Status}
-use Rattle.backsim.specs.declared.status.Status.TheVariants.{Ended, Words, Refused, ReadFault, WriteFault, FileFault, OutOfMemory}
+use Rattle.backsim.specs.declared.status.Status.TheVariants.{Ended, Words, ReadFault, WriteFault, FileFault, OutOfMemory}
 use Rattle.backsim.specs.Commands.{Command}
 use Rattle.backsim.specs.Seen.{Seen, left_in, IsUntouched}
-use Rattle.backsim.specs.Places.{OnFile}
 use Rattle.backsim.specs.Session.{Given, Wrote, IsServed}
 use Rattle.backsim.specs.Refused.{AreRefused, IsScriptRefused}
 use Rattle.backsim.specs.Texts.{too_long}
@@ -50,19 +51,17 @@ ServedUntil command given before after = Wrote command given before after (λ se
 
 -- What a fault or a lack of memory leaves. A session that ended or refused something is told of elsewhere.
 abbrev pub Leaves : Command → Given → Seen → Seen → Status → Type 0
-Leaves command given before after Ended = ⊤
-Leaves command given before after Words = ⊤
-Leaves command given before after Refused = ⊤
-Leaves command given before after (ReadFault Script) = ServedUntil command given before after
-Leaves command given before after (ReadFault place) = IsUntouched before after
-Leaves command given before after (WriteFault Replies) = BrokeOffIn command given before after ⊎ ToldInPart command given before after
-Leaves command given before after (WriteFault Vcd) = BrokeOffInDump command given before after
-Leaves command given before after (WriteFault place) = BrokeOffInJournal command given before after
-Leaves command given before after (FileFault Journal) = IsUntouched before after ⊎ IsServed command given before after
-Leaves command given before after (FileFault Vcd) = BrokeOffInDump command given before after
-Leaves command given before after (FileFault place) = IsUntouched before after
+Leaves command given before after (ReadFault (inputs.Circuit file)) = IsUntouched before after
+Leaves command given before after (ReadFault inputs.Script) = ServedUntil command given before after
+Leaves command given before after (WriteFault outputs.Replies) = BrokeOffIn command given before after ⊎ ToldInPart command given before after
+Leaves command given before after (WriteFault outputs.Journal) = BrokeOffInJournal command given before after
+Leaves command given before after (WriteFault outputs.Vcd) = BrokeOffInDump command given before after
+Leaves command given before after (FileFault (named.Circuit file)) = IsUntouched before after
+Leaves command given before after (FileFault named.Journal) = IsUntouched before after ⊎ IsServed command given before after
+Leaves command given before after (FileFault named.Vcd) = BrokeOffInDump command given before after
 Leaves command given before after OutOfMemory =
     IsUntouched before after ⊎ (BrokeOff command given before after ⊎ ToldInPart command given before after)
+Leaves command given before after status = ⊤
 
 -- Which created files are not finished at a session's end.
 
@@ -85,20 +84,12 @@ pub record JournalAndDump (files : FilesState) : Type 0 where
 abbrev pub LeavesOpen : FilesState → Status → Type 0
 LeavesOpen files Ended = files.unfinished ≡ []
 LeavesOpen files Words = files.unfinished ≡ []
-LeavesOpen files Refused = JournalAtMost files
-LeavesOpen files (ReadFault place) = JournalAtMost files
-LeavesOpen files (WriteFault Vcd) = JournalAndDump files
-LeavesOpen files (WriteFault place) = JournalAtMost files
-LeavesOpen files (FileFault Vcd) = JournalAlone files ⊎ JournalAndDump files
-LeavesOpen files (FileFault place) = JournalAtMost files
-LeavesOpen files OutOfMemory = JournalAtMost files
+LeavesOpen files (WriteFault outputs.Vcd) = JournalAndDump files
+LeavesOpen files (FileFault named.Vcd) = JournalAlone files ⊎ JournalAndDump files
+LeavesOpen files status = JournalAtMost files
 
 -- what is known where one of the three files could not be opened or read
 abbrev pub OnFileFault : Type 0 → Status → Type 0
-OnFileFault says (ReadFault place) = OnFile says place
-OnFileFault says (FileFault place) = OnFile says place
-OnFileFault says (WriteFault place) = ⊤
-OnFileFault says Ended = ⊤
-OnFileFault says Words = ⊤
-OnFileFault says Refused = ⊤
-OnFileFault says OutOfMemory = ⊤
+OnFileFault says (ReadFault (inputs.Circuit file)) = says
+OnFileFault says (FileFault (named.Circuit file)) = says
+OnFileFault says status = ⊤

@@ -1,6 +1,5 @@
 pub mod Seen
 pub mod Cause
-pub mod Places
 pub mod Commands
 pub mod Texts
 pub mod Session

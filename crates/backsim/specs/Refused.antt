@@ -1,5 +1,5 @@
 -- What is refused, and what is written of it.
-use Rattle.std.specs.Prelude.{◌≡◌, ◌≤◌, ◌<◌, ◌⊎◌, ⊤, ℕ, List, ◌++◌, Some, Err}
+use Rattle.std.specs.Prelude.{◌≡◌, ◌≤◌, ◌<◌, ◌⊎◌, ℕ, List, ◌++◌, Some, Err}
 use Rattle.owned_text.specs.Made.{Made}
 use Rattle.backsim_io.specs.Counts.{Grows, GrowsByPrefix}
 use Rattle.backsim_io.specs.FilesInMemory.{SameMade}
@@ -7,12 +7,13 @@ use Rattle.circuit_files.specs.Files.{design_of_files}
 use Rattle.circuit_files.specs.Texts.{refusal_text}
 use Rattle.circuit_files.specs.declared.refusal.FileRefusal.{FileRefusal}
 use Rattle.session_meaning.specs.Broken.{IsCutOff}
-use Rattle.backsim.specs.declared.status.Place.TheVariants.{Replies}
+use Rattle.backsim.specs.declared.status.Input.TheVariants as inputs
+use Rattle.backsim.specs.declared.status.Output.TheVariants as outputs
+use Rattle.backsim.specs.declared.status.NamedFile.TheVariants as named
 use Rattle.backsim.specs.declared.status.Status.{Status}
-use Rattle.backsim.specs.declared.status.Status.TheVariants.{Ended, Words, Refused, ReadFault, WriteFault, FileFault, OutOfMemory}
+use Rattle.backsim.specs.declared.status.Status.TheVariants.{Refused, ReadFault, WriteFault, FileFault, OutOfMemory}
 use Rattle.backsim.specs.Commands.{Command}
 use Rattle.backsim.specs.Seen.{Seen, files_in, left_in, created_in}
-use Rattle.backsim.specs.Places.{IsFile}
 use Rattle.backsim.specs.Session.{Given, Wrote}
 use Rattle.backsim.specs.Texts.{too_long}
 
@@ -47,21 +48,11 @@ IsRefused command given before after =
 -- of the first n files: no file behind them was opened, and a fault is at one of them, or at the line
 abbrev pub EndsFiles : ℕ → (started : ℕ) → Status → Type 0
 EndsFiles n started Refused = started ≤ n
-EndsFiles n started (ReadFault place) = IsFile place × (started ≤ n)
-EndsFiles n started (FileFault place) = IsFile place × (started < n)
-EndsFiles n started (WriteFault place) = (place ≡ Replies) × (started ≤ n)
+EndsFiles n started (ReadFault (inputs.Circuit file)) = started ≤ n
+EndsFiles n started (FileFault (named.Circuit file)) = started < n
+EndsFiles n started (WriteFault outputs.Replies) = started ≤ n
 EndsFiles n started OutOfMemory = started ≤ n
-EndsFiles n started Ended = ⊥
-EndsFiles n started Words = ⊥
-
-abbrev pub EndsEarly : Status → Type 0
-EndsEarly Ended = ⊥
-EndsEarly Words = ⊥
-EndsEarly Refused = ⊤
-EndsEarly (ReadFault place) = ⊤
-EndsEarly (WriteFault place) = ⊤
-EndsEarly (FileFault place) = ⊤
-EndsEarly OutOfMemory = ⊤
+EndsFiles n started status = ⊥
 
 -- The first n files have this refusal: its line was written under status 2, and else a part of it at most. The script is unread, no
 -- file was created, and none behind these files was opened.

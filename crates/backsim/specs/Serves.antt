@@ -5,7 +5,7 @@ use Rattle.circuit_files.specs.Files.{netlist_of, first_two, design_of_files}
 use Rattle.circuit_files.specs.declared.refusal.FileRefusal.{FileRefusal}
 use Rattle.command_words.specs.Words.{Text, Form, Session, Workload}
 use Rattle.design.specs.Joined.{Joined}
-use Rattle.backsim.specs.declared.status.Place.TheVariants.{Replies}
+use Rattle.backsim.specs.declared.status.Output.TheVariants as outputs
 use Rattle.backsim.specs.declared.status.Status.{Status}
 use Rattle.backsim.specs.declared.status.Status.TheVariants.{Ended, Words, Refused, WriteFault, OutOfMemory}
 use Rattle.backsim.specs.Seen.{Seen, files_in, bytes_in, created_in, IsUntouched}
@@ -13,13 +13,13 @@ use Rattle.backsim.specs.Cause.{counts_in, NoneRose, Explains}
 use Rattle.backsim.specs.Commands.{Command, command_of}
 use Rattle.backsim.specs.Texts.{usage}
 use Rattle.backsim.specs.Session.{Given, AreGiven, IsServed}
-use Rattle.backsim.specs.Refused.{IsRefused, RefusesFiles, EndsEarly}
+use Rattle.backsim.specs.Refused.{IsRefused, RefusesFiles}
 use Rattle.backsim.specs.Broken.{Leaves, LeavesOpen, OnFileFault}
 use Rattle.backsim.specs.Work.{IsWorkServed, LeavesWork}
 
 -- Words of no form: the usage text was written under status 1, and else a part of it at most.
 pub record SaysUsage (before after : Seen) (status : Status) : Type 0 where
-  pub ends : (status ≡ Words) ⊎ ((status ≡ WriteFault Replies) ⊎ (status ≡ OutOfMemory))
+  pub ends : (status ≡ Words) ⊎ ((status ≡ WriteFault outputs.Replies) ⊎ (status ≡ OutOfMemory))
   pub whole : status ≡ Words → Grows before.written after.written usage
   pub part : GrowsByPrefix before.written after.written usage
   pub cause : Explains 0 before.outside after.outside status
@@ -39,7 +39,7 @@ pub record ServesSession (command : Command) (before after : Seen) (status : Sta
   pub files_refused : (refusal : FileRefusal) (first second third : List ℕ)
       → bytes_in before command.netlist ≡ Some first → bytes_in before command.timing ≡ Some second → bytes_in before command.stimulus ≡ Some third
       → design_of_files first second third ≡ Err refusal → RefusesFiles 3 refusal before after status
-  pub script_refused : (given : Given) → AreGiven before command given → 16777216 < length given.script → EndsEarly status
+  pub script_refused : (given : Given) → AreGiven before command given → 16777216 < length given.script → ¬ (status ≡ Ended)
   -- status 1 is that of other words
   pub no_usage : ¬ (status ≡ Words)
   -- statuses 3 to 5: which count of faults rose, and that none did under 0 and 2

@@ -7,7 +7,9 @@ use Rattle.gate_values.specs.Gates.{same_value}
 use Rattle.gate_values.specs.declared.Value.TheVariants.{One}
 use Rattle.circuit_meaning.specs.declared.Run.{Run}
 use Rattle.reply_lines.specs.declared.reply.Reply.{Reply}
-use Rattle.reply_lines.specs.declared.reply.Reply.TheVariants.{Wave, Unknown, Past, Budget, BadLine}
+use Rattle.reply_lines.specs.declared.reply.Reply.TheVariants.{Window, BadLine}
+use Rattle.reply_lines.specs.declared.reply.Outcome.{Outcome}
+use Rattle.reply_lines.specs.declared.reply.Outcome.TheVariants.{Answer, Unknown, Past, Budget}
 use Rattle.reply_lines.specs.Replies.{text_line}
 use Rattle.command_words.specs.Words.{Text}
 use Rattle.session_meaning.specs.Session.{Setup}
@@ -16,18 +18,23 @@ use Rattle.session_loop.specs.Halting.{WroteJournal, IsWorkDone, IsWorkBegun}
 use Rattle.workload.specs.declared.Work.{Work}
 use Rattle.workload.specs.Workload.{IsWork}
 use Rattle.backsim.specs.Seen.{Seen, created_in}
-use Rattle.backsim.specs.declared.status.Place.TheVariants.{Journal, Replies}
+use Rattle.backsim.specs.declared.status.Output.TheVariants as outputs
+use Rattle.backsim.specs.declared.status.NamedFile.TheVariants as named
 use Rattle.backsim.specs.declared.status.Status.{Status}
-use Rattle.backsim.specs.declared.status.Status.TheVariants.{Ended, Words, Refused, ReadFault, WriteFault, FileFault, OutOfMemory}
+use Rattle.backsim.specs.declared.status.Status.TheVariants.{Ended, WriteFault, FileFault, OutOfMemory}
 
 -- The line.
 
--- the runs of a wave; another reply has none
+-- the runs of a wave; a window without an answer has none
+abbrev pub wave_runs : Outcome (List Run) → List Run
+wave_runs (Answer runs) = runs
+wave_runs Unknown = []
+wave_runs Past = []
+wave_runs (Budget budget) = []
+
+-- the same of a reply
 abbrev pub runs_in : Reply → List Run
-runs_in (Wave runs) = runs
-runs_in Unknown = []
-runs_in Past = []
-runs_in (Budget budget) = []
+runs_in (Window outcome) = wave_runs outcome
 runs_in BadLine = []
 
 abbrev pub is_one : Run → Bool
@@ -95,13 +102,9 @@ pub record NoWork (before after : Seen) : Type 0 where
 -- What a fault or a lack of memory leaves. The other statuses are not those of a workload.
 abbrev pub LeavesWork : ℕ → Text → Seen → Seen → Status → Type 0
 LeavesWork number journal before after Ended = ⊤
-LeavesWork number journal before after Words = ⊥
-LeavesWork number journal before after Refused = ⊥
-LeavesWork number journal before after (ReadFault place) = ⊥
-LeavesWork number journal before after (WriteFault Replies) = OfWork number (Answered GrowsByPrefix number journal before after)
-LeavesWork number journal before after (WriteFault Journal) = BrokeOffWork number journal before after
-LeavesWork number journal before after (WriteFault place) = ⊥
-LeavesWork number journal before after (FileFault Journal) = NoWork before after ⊎ IsWorkServed number journal before after
-LeavesWork number journal before after (FileFault place) = ⊥
+LeavesWork number journal before after (WriteFault outputs.Replies) = OfWork number (Answered GrowsByPrefix number journal before after)
+LeavesWork number journal before after (WriteFault outputs.Journal) = BrokeOffWork number journal before after
+LeavesWork number journal before after (FileFault named.Journal) = NoWork before after ⊎ IsWorkServed number journal before after
 LeavesWork number journal before after OutOfMemory =
     NoWork before after ⊎ (BrokeOffWork number journal before after ⊎ DidWork number journal before after)
+LeavesWork number journal before after status = ⊥

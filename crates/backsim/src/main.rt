@@ -15,7 +15,7 @@
 //!   the created files may be unfinished at the end (`specs/Broken`).
 //! - `work` is a run of the crate `workload`'s workload: one batch without a script, in place of whose replies one line counts
 //!   them (`specs/Work`).
-//! - `refusal` writes what is wrong with a file, and `status` numbers the ways in which a session ends.
+//! - `stopped` ends a session that stopped, where it refuses something by a line, and `status` numbers the ways in which a session ends.
 //!
 //! ```text
 //! $ echo "wave 22 0 11" | backsim c17.bench c17.timing c17.stimulus c17.journal
@@ -26,12 +26,12 @@
 //! ```
 #![tactic(auto)]
 
-mod refusal;
+mod line;
 mod serve;
 mod status;
+mod stopped;
 #[cfg(test)]
 mod tests;
-mod usage;
 mod work;
 
 use crate::status::Status;
@@ -74,9 +74,9 @@ fn run<R: Threads + Wait + Sync>(rt: &HostRuntime, threads: &R) -> Result<Status
 fn main(rt: HostRuntime) -> ExitCode {
     let status = run(&rt, &rt).unwrap_or(Status::OutOfMemory);
     let _ = match status {
-        Status::ReadFault(place) => eprintln!(rt; "backsim: read fault: {}", place.name()),
-        Status::WriteFault(place) => eprintln!(rt; "backsim: write fault: {}", place.name()),
-        Status::FileFault(place) => eprintln!(rt; "backsim: file fault: {}", place.name()),
+        Status::ReadFault(input) => eprintln!(rt; "backsim: read fault: {}", input.name()),
+        Status::WriteFault(output) => eprintln!(rt; "backsim: write fault: {}", output.name()),
+        Status::FileFault(file) => eprintln!(rt; "backsim: file fault: {}", file.name()),
         Status::OutOfMemory => eprintln!(rt; "backsim: out of memory"),
         _ => Ok(()),
     };

@@ -6,16 +6,15 @@ ghost use Rattle.command_words.specs.Words.{words_of};
 ghost use Rattle.backsim.specs.Commands.{command_of, OnNoSession};
 ghost use Rattle.backsim.specs.Serves.{Serves, ServesSession};
 ghost use Rattle.backsim.specs.Seen.{seen_of};
-ghost use Rattle.backsim.specs.inner.Stops.{EndsWith, EndExplains};
 
-use crate::refusal::Stop;
-use crate::status::{Place, Status};
-use crate::usage::write_usage;
+use crate::line::{USAGE, tell};
+use crate::status::Status;
+use crate::stopped::{end_files, end_halted};
 use crate::work::{Workload, serve_workload};
-use backsim_io::{Files, Sink, Source, write_all};
+use backsim_io::{Files, Sink, Source};
 use circuit_files::read_design;
 use command_words::{Words, read_words};
-use session_loop::{Setting, serve_session};
+use session_loop::{Service, serve_session};
 use session_meaning::sessions_are_whole;
 use std::alloc::Global;
 use std::mem;
@@ -71,46 +70,25 @@ fn serve_files<F: Files, Q: Source, S: Sink, G: Gate, R: Threads + Wait + Sync>(
     } = *asked;
     let design = match read_design(alloc, netlist, timing, stimulus, files) {
         Ok(design) => design,
-        Err(stop) => return end_stopped(alloc, Stop::from(stop), out),
+        Err(stop) => return end_files(alloc, stop, out),
     };
     design.facts();
     sessions_are_whole();
     let crew = Workers::new(rt, gate, workers);
-    let setting = Setting {
+    let service = Service {
         alloc,
         design: &design,
         sizes,
     };
     let inputs = [netlist, timing, stimulus];
-    match serve_session(&crew, &setting, &inputs, journal, files, queries, out) {
+    match serve_session(&crew, &service, &inputs, journal, files, queries, out) {
         Ok(stores) => {
             // their memory goes with the process
             mem::forget(stores);
             mem::forget(design);
             Status::Ended
         }
-        Err(halt) => end_stopped(alloc, Stop::from(halt), out),
-    }
-}
-
-/// Ends a session that stopped. What it refused is told by a line.
-pub fn end_stopped<S: Sink>(alloc: Global, stop: Stop, out: &mut S) -> Status
-    ensures cause { EndExplains stop (S.faults out.old) (S.faults out.new) result }
-    ensures told { EndsWith stop (S.written out.old) (S.written out.new) result }
-{
-    let refusal = match stop {
-        Stop::Refused(refusal) => refusal,
-        Stop::ReadFault(place) => return Status::ReadFault(place),
-        Stop::WriteFault(place) => return Status::WriteFault(place),
-        Stop::FileFault(place) => return Status::FileFault(place),
-        Stop::OutOfMemory => return Status::OutOfMemory,
-    };
-    let Ok(text) = refusal.text(alloc) else {
-        return Status::OutOfMemory;
-    };
-    match write_all(out, text.as_bytes()) {
-        Ok(()) => Status::Refused,
-        Err(_) => Status::WriteFault(Place::Replies),
+        Err(halt) => end_halted(halt, out),
     }
 }
 
@@ -140,7 +118,7 @@ pub fn serve<F: Files, Q: Source, S: Sink, G: Gate, R: Threads + Wait + Sync>(
 {
     match read_words(alloc, words) {
         Err(_) => Status::OutOfMemory,
-        Ok(None) => write_usage(out),
+        Ok(None) => tell(USAGE, Status::Words, out),
         Ok(
             Some(
                 Words::Session {

@@ -1,49 +1,71 @@
 //! How a session ended.
 
 ghost use Rattle.std.specs.Prelude.{◌≡◌};
-ghost use Rattle.backsim.specs.inner.Statuses.{number_of};
-ghost use Rattle.backsim.specs.inner.Stops.{place_of};
-ghost use Rattle.backsim.specs.Texts.{name_of};
+ghost use Rattle.backsim.specs.inner.Statuses.{number_of, of_journal, of_unit, of_work};
+ghost use Rattle.backsim.specs.Texts.{input_name, output_name, file_name};
 
 use circuit_files::CircuitFile;
+use session_loop::{JournalHalt, JournalStop, UnitStop};
 
-/// Where a fault was met.
+/// What a read failed of.
 #[derive(Clone, Copy, Debug, PartialEq, Eq)]
-pub enum Place {
-    Netlist,
-    Timing,
-    Stimulus,
-    Journal,
+pub enum Input {
+    Circuit(CircuitFile),
     Script,
+}
+
+impl Input {
+    /// Its name in what the program prints.
+    pub fn name(self) -> &'static str
+        ensures { result.now ≡ input_name self }
+    {
+        match self {
+            Input::Circuit(file) => file.name(),
+            Input::Script => "script",
+        }
+    }
+}
+
+/// What a write failed of.
+#[derive(Clone, Copy, Debug, PartialEq, Eq)]
+pub enum Output {
     Replies,
+    Journal,
     /// A dump of waves.
     Vcd,
 }
 
-impl Place {
-    /// The place of one of the three files.
-    pub fn of_file(file: CircuitFile) -> Place
-        ensures { result ≡ place_of file }
-    {
-        match file {
-            CircuitFile::Netlist => Place::Netlist,
-            CircuitFile::Timing => Place::Timing,
-            CircuitFile::Stimulus => Place::Stimulus,
-        }
-    }
-
-    /// The name of the place in what the program prints.
+impl Output {
+    /// Its name in what the program prints.
     pub fn name(self) -> &'static str
-        ensures { result.now ≡ name_of self }
+        ensures { result.now ≡ output_name self }
     {
         match self {
-            Place::Netlist => "netlist",
-            Place::Timing => "timing",
-            Place::Stimulus => "stimulus",
-            Place::Journal => "journal",
-            Place::Script => "script",
-            Place::Replies => "replies",
-            Place::Vcd => "vcd",
+            Output::Replies => "replies",
+            Output::Journal => "journal",
+            Output::Vcd => "vcd",
+        }
+    }
+}
+
+/// Which file couldn't be opened, created or finished.
+#[derive(Clone, Copy, Debug, PartialEq, Eq)]
+pub enum NamedFile {
+    Circuit(CircuitFile),
+    Journal,
+    /// A dump of waves.
+    Vcd,
+}
+
+impl NamedFile {
+    /// Its name in what the program prints.
+    pub fn name(self) -> &'static str
+        ensures { result.now ≡ file_name self }
+    {
+        match self {
+            NamedFile::Circuit(file) => file.name(),
+            NamedFile::Journal => "journal",
+            NamedFile::Vcd => "vcd",
         }
     }
 }
@@ -57,10 +79,9 @@ pub enum Status {
     Words,
     /// A file or the script was refused.
     Refused,
-    ReadFault(Place),
-    WriteFault(Place),
-    /// A file couldn't be opened, created or finished.
-    FileFault(Place),
+    ReadFault(Input),
+    WriteFault(Output),
+    FileFault(NamedFile),
     OutOfMemory,
 }
 
@@ -77,6 +98,42 @@ impl Status {
             Status::WriteFault(_) => 4,
             Status::FileFault(_) => 5,
             Status::OutOfMemory => 6,
+        }
+    }
+}
+
+impl From<JournalStop> for Status {
+    ghost from_gives = { λ stop status. status ≡ of_journal stop };
+
+    fn from(stop: JournalStop) -> Status {
+        match stop {
+            JournalStop::Unwritten => Status::WriteFault(Output::Journal),
+            JournalStop::OutOfMemory => Status::OutOfMemory,
+        }
+    }
+}
+
+impl From<UnitStop> for Status {
+    ghost from_gives = { λ stop status. status ≡ of_unit stop };
+
+    fn from(stop: UnitStop) -> Status {
+        match stop {
+            UnitStop::RepliesUnwritten => Status::WriteFault(Output::Replies),
+            UnitStop::JournalUnwritten => Status::WriteFault(Output::Journal),
+            UnitStop::DumpUnwritten => Status::WriteFault(Output::Vcd),
+            UnitStop::DumpUnmade | UnitStop::DumpUnfinished => Status::FileFault(NamedFile::Vcd),
+            UnitStop::OutOfMemory => Status::OutOfMemory,
+        }
+    }
+}
+
+impl From<JournalHalt> for Status {
+    ghost from_gives = { λ halt status. status ≡ of_work halt };
+
+    fn from(halt: JournalHalt) -> Status {
+        match halt {
+            JournalHalt::Unmade => Status::FileFault(NamedFile::Journal),
+            JournalHalt::Stopped(stop) => Status::from(stop),
         }
     }
 }

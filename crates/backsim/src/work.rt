@@ -1,22 +1,20 @@
 //! A run of the workload, from its number to the status.
 
-ghost use Rattle.std.specs.Prelude.{◌≡◌, ◌<◌, ◌≤◌, Contains, IfOk, IfSome, filter, length, string_bytes};
-ghost use Rattle.backsim_io.specs.FilesInMemory.{SameMade};
+ghost use Rattle.std.specs.Prelude.{◌≡◌, ◌<◌, ◌≤◌, IfOk, IfSome, filter, length, string_bytes};
 ghost use Rattle.backsim_io.specs.State.{SourceState};
 ghost use Rattle.backsim.specs.Serves.{ServesWorkload};
 ghost use Rattle.backsim.specs.Seen.{seen_of};
 ghost use Rattle.backsim.specs.Work as work;
-ghost use Rattle.backsim.specs.Work.{counts_line, run_count, one_count, work_line, runs_in};
-ghost use Rattle.backsim.specs.inner.Work.{IsLineTold, LineExplains, EndsWork};
+ghost use Rattle.backsim.specs.Work.{counts_line, work_line, runs_in};
+ghost use Rattle.backsim.specs.inner.Work.{IsLineTold, of_line};
+ghost use Rattle.backsim.specs.declared.work.LineStop.TheVariants.{OutOfMemory as out_of_memory};
 
-use crate::refusal::Stop;
-use crate::serve::end_stopped;
-use crate::status::{Place, Status};
+use crate::status::{NamedFile, Output, Status};
 use backsim_io::{Files, Sink, write_all};
 use gate_values::Value;
 use query_lines::script_units_are_fit;
-use reply_lines::Reply;
-use session_loop::{Halt, Setting, finish_journal, serve_work};
+use reply_lines::{Outcome, Reply};
+use session_loop::{Service, finish_journal, serve_work};
 use std::alloc::{AllocError, Global};
 use std::mem;
 use std::sync::Wait;
@@ -28,6 +26,34 @@ use workload::workload;
 
 /// The horizon of every workload. That its stimulus text names it isn't proved, so it is looked at.
 const HORIZON: u32 = 100_000;
+
+/// Why the line of a workload is not written.
+#[derive(Clone, Copy, Debug, PartialEq, Eq)]
+pub enum LineStop {
+    /// A write failed.
+    Unwritten,
+    /// There is no memory, or a count is too great for its type.
+    OutOfMemory,
+}
+
+impl From<AllocError> for LineStop {
+    ghost from_gives = { λ _ stop. stop ≡ out_of_memory };
+
+    fn from(_: AllocError) -> LineStop {
+        LineStop::OutOfMemory
+    }
+}
+
+impl From<LineStop> for Status {
+    ghost from_gives = { λ stop status. status ≡ of_line stop };
+
+    fn from(stop: LineStop) -> Status {
+        match stop {
+            LineStop::Unwritten => Status::WriteFault(Output::Replies),
+            LineStop::OutOfMemory => Status::OutOfMemory,
+        }
+    }
+}
 
 /// What the words of a workload ask for.
 #[derive(Clone, Copy)]
@@ -74,63 +100,45 @@ pub fn serve_workload<F: Files, S: Sink, G: Gate, R: Threads + Wait + Sync>(
         shards: 8,
         cells: 16_384,
     };
-    let setting = Setting {
+    let service = Service {
         alloc,
         design: &work.design,
         sizes,
     };
-    match serve_work(&crew, &setting, work.items.as_slice(), journal, files) {
+    match serve_work(&crew, &service, work.items.as_slice(), journal, files) {
         Ok(done) => {
             // their memory goes with the process
             mem::forget(work);
             mem::forget(done.stores);
-            let told = tell(alloc, number, &done.replies, out);
-            end_work(told, files)
+            match tell_counts(alloc, number, &done.replies, out) {
+                Ok(()) => match finish_journal(files) {
+                    Ok(()) => Status::Ended,
+                    Err(_) => Status::FileFault(NamedFile::Journal),
+                },
+                Err(stop) => Status::from(stop),
+            }
         }
-        Err(halt) => end_stopped(alloc, Stop::from(halt), out),
+        Err(halt) => Status::from(halt),
     }
 }
 
 /// Writes the line that counts the replies.
-fn tell<S: Sink>(alloc: Global, number: u32, replies: &[Reply], out: &mut S) -> Status
-    ensures told { IsLineTold (work_line number replies.now) (S.written out.old) (S.written out.new)
-        result }
-    ensures cause { LineExplains (S.faults out.old) (S.faults out.new) result }
+fn tell_counts<S: Sink>(
+    alloc: Global,
+    number: u32,
+    replies: &[Reply],
+    out: &mut S,
+) -> Result<(), LineStop>
+    ensures { IsLineTold (work_line number replies.now) result
+        (S.faults out.old) (S.written out.old) (S.faults out.new) (S.written out.new) }
 {
-    let Some(runs) = all_runs(replies) else {
-        return Status::OutOfMemory;
+    let (Some(runs), Some(ones)) = (run_count(replies), one_count(replies)) else {
+        return Err(LineStop::OutOfMemory);
     };
-    let Some(ones) = all_ones(replies) else {
-        return Status::OutOfMemory;
-    };
-    let Ok(text) = line_text(alloc, number, runs, ones) else {
-        return Status::OutOfMemory;
-    };
+    let text = line_text(alloc, number, runs, ones)?;
     match write_all(out, text.as_bytes()) {
-        Ok(()) => Status::Ended,
-        Err(_) => Status::WriteFault(Place::Replies),
-    }
-}
-
-/// Finishes the journal behind the line, if that was written.
-fn end_work<F: Files>(told: Status, files: &mut F) -> Status
-    requires { Contains (F.state files.old).unfinished 0 }
-    ensures made { SameMade (F.made files.old) (F.made files.new) }
-    ensures state { EndsWork told (F.state files.old) (F.state files.new) result }
-{
-    match told {
-        Status::Ended => match finish_journal(files) {
-            Ok(()) => Status::Ended,
-            Err(Halt::JournalUnfinished) => Status::FileFault(Place::Journal),
-            Err(Halt::JournalUnmade) => unreachable!(),
-            Err(Halt::Stopped(_)) => unreachable!(),
-        },
-        Status::Words => Status::Words,
-        Status::Refused => Status::Refused,
-        Status::ReadFault(place) => Status::ReadFault(place),
-        Status::WriteFault(place) => Status::WriteFault(place),
-        Status::FileFault(place) => Status::FileFault(place),
-        Status::OutOfMemory => Status::OutOfMemory,
+        Ok(()) => Ok(()),
+        Err(_) => Err(LineStop::Unwritten),
     }
 }
 
@@ -141,8 +149,8 @@ fn line_text(alloc: Global, number: u32, runs: u64, ones: u64) -> Result<String,
 }
 
 /// How many runs the waves have, if that is a number.
-fn all_runs(replies: &[Reply]) -> Option<u64>
-    ensures { IfSome result (λ n. n ≡ run_count replies.now) }
+fn run_count(replies: &[Reply]) -> Option<u64>
+    ensures { IfSome result (λ n. n ≡ work.run_count replies.now) }
 {
     let mut runs = 0u64;
     for reply in replies {
@@ -152,8 +160,8 @@ fn all_runs(replies: &[Reply]) -> Option<u64>
 }
 
 /// How many of their runs have the value 1, if that is a number.
-fn all_ones(replies: &[Reply]) -> Option<u64>
-    ensures { IfSome result (λ n. n ≡ one_count replies.now) }
+fn one_count(replies: &[Reply]) -> Option<u64>
+    ensures { IfSome result (λ n. n ≡ work.one_count replies.now) }
 {
     let mut ones = 0u64;
     for reply in replies {
@@ -166,7 +174,7 @@ fn runs_of(reply: &Reply) -> u64
     ensures { result ≡ length (runs_in reply.now) }
 {
     match reply {
-        Reply::Wave(runs) => runs.as_slice().len() as u64,
+        Reply::Window(Outcome::Answer(runs)) => runs.as_slice().len() as u64,
         _ => 0,
     }
 }
@@ -175,7 +183,7 @@ fn ones_of(reply: &Reply) -> u64
     ensures { result ≡ work.ones_in reply.now }
 {
     match reply {
-        Reply::Wave(runs) => ones_among(runs.as_slice()),
+        Reply::Window(Outcome::Answer(runs)) => ones_among(runs.as_slice()),
         _ => 0,
     }
 }

@@ -1,7 +1,6 @@
 -- Where a session breaks off.
 use Rattle.std.proofs.Common.{◌≡◌, ℕ, ◌+◌, ◌<◌, List, [], ◌∷◌, ◌++◌, length, refl, sym, ap, subst, ◌∙◌, append_assoc, append-nil, length-append, arith, ◌⊎◌, inl, inr}
 use Rattle.owned_text.specs.Made.{Made}
-use Rattle.backsim_io.specs.State.{FilesState}
 use Rattle.query_lines.specs.declared.unit.Unit.{Unit as ScriptUnit}
 use Rattle.query_lines.specs.declared.unit.Unit.TheVariants.{Vcd}
 use Rattle.reply_lines.specs.Replies.{vcd_line}
@@ -9,11 +8,17 @@ use Rattle.session_meaning.specs.Session.{Setup, Course, IsServed, Session, Serv
 use Rattle.session_meaning.specs.Broken.{IsPrefix, journal_of, AreBegun, IsUntouched, IsFirstBegun, IsBroken, IsBrokenInJournal, IsBrokenInDump}
 use Rattle.session_meaning.proofs.Journals.{prefix-same}
 use Rattle.session_meaning.proofs.Dumps.{vcd-replies, vcd-journal, vcd-longer}
-use Rattle.session_loop.specs.declared.stop.Stop.{Stop}
-use Rattle.session_loop.specs.declared.stop.Stop.TheVariants.{ScriptUnread, ScriptTooLong, RepliesUnwritten, JournalUnwritten, DumpUnmade, DumpUnwritten, DumpUnfinished, OutOfMemory}
-use Rattle.session_loop.specs.Outside.{JournalStops}
-use Rattle.session_loop.specs.inner.Outside.{RepliesStops, DumpStops}
-use Rattle.session_loop.specs.inner.Serving.{BreaksAt, Within}
+use Rattle.session_loop.specs.declared.stop.JournalStop.{JournalStop}
+use Rattle.session_loop.specs.declared.stop.JournalStop.TheVariants as journal
+use Rattle.session_loop.specs.declared.stop.RepliesStop.{RepliesStop}
+use Rattle.session_loop.specs.declared.stop.RepliesStop.TheVariants as replies
+use Rattle.session_loop.specs.declared.stop.DumpStop.{DumpStop}
+use Rattle.session_loop.specs.declared.stop.DumpStop.TheVariants as dump
+use Rattle.session_loop.specs.declared.stop.UnitStop.{UnitStop}
+use Rattle.session_loop.specs.declared.stop.UnitStop.TheVariants.{RepliesUnwritten, JournalUnwritten, DumpUnmade, DumpUnwritten, DumpUnfinished, OutOfMemory}
+use Rattle.session_loop.specs.Stops.{of_replies, of_journal, of_dump}
+use Rattle.session_loop.specs.Serving.{BreaksAt}
+use Rattle.session_loop.specs.inner.Serving.{Within}
 
 -- ---- within units
 
@@ -175,10 +180,8 @@ module _ (setup : Setup) where
   }
 
   -- further units come behind those in which it breaks off
-  pub breaks-longer : (replies journal : List ℕ) (dumps : List Made) (stop : Stop) (done later further : List ScriptUnit) → BreaksAt setup replies journal dumps stop done later
+  pub breaks-longer : (replies journal : List ℕ) (dumps : List Made) (stop : UnitStop) (done later further : List ScriptUnit) → BreaksAt setup replies journal dumps stop done later
       → BreaksAt setup replies journal dumps stop done (later ++ further)
-  breaks-longer replies journal dumps ScriptUnread done later further broken = broken-longer replies journal dumps done later further broken
-  breaks-longer replies journal dumps ScriptTooLong done later further broken = broken-longer replies journal dumps done later further broken
   breaks-longer replies journal dumps RepliesUnwritten done later further broken = broken-longer replies journal dumps done later further broken
   breaks-longer replies journal dumps JournalUnwritten done later further broken = journal-longer replies journal dumps done later further broken
   breaks-longer replies journal dumps DumpUnmade done later further broken = dump-longer replies journal dumps done later further broken
@@ -187,39 +190,22 @@ module _ (setup : Setup) where
   breaks-longer replies journal dumps OutOfMemory done later further broken = broken-longer replies journal dumps done later further broken
 
   -- a stop of the replies breaks off in any unit
-  pub breaks-in-reply : (replies journal : List ℕ) (dumps : List Made) (a a' : ℕ) (stop : Stop) → RepliesStops a a' stop → (done later : List ScriptUnit) → IsBroken setup done later replies journal dumps
-      → BreaksAt setup replies journal dumps stop done later
-  breaks-in-reply replies journal dumps a a' ScriptUnread cause done later broken = absurd cause
-  breaks-in-reply replies journal dumps a a' ScriptTooLong cause done later broken = absurd cause
-  breaks-in-reply replies journal dumps a a' RepliesUnwritten cause done later broken = broken
-  breaks-in-reply replies journal dumps a a' JournalUnwritten cause done later broken = absurd cause
-  breaks-in-reply replies journal dumps a a' DumpUnmade cause done later broken = absurd cause
-  breaks-in-reply replies journal dumps a a' DumpUnwritten cause done later broken = absurd cause
-  breaks-in-reply replies journal dumps a a' DumpUnfinished cause done later broken = absurd cause
-  breaks-in-reply replies journal dumps a a' OutOfMemory cause done later broken = broken
+  pub breaks-in-reply : (out journal : List ℕ) (dumps : List Made) (stop : RepliesStop) (done later : List ScriptUnit) → IsBroken setup done later out journal dumps
+      → BreaksAt setup out journal dumps (of_replies stop) done later
+  breaks-in-reply out journal dumps replies.Unwritten done later broken = broken
+  breaks-in-reply out journal dumps replies.OutOfMemory done later broken = broken
 
   -- a stop of the journal breaks off behind all replies of a unit, and a lack of memory in any place
-  pub breaks-in-journal : (units more : List ScriptUnit) (replies journal : List ℕ) (dumps : List Made) (old new : FilesState) (stop : Stop) → JournalStops old new stop
-      → IsBrokenInJournal setup units more replies journal dumps → Within units more (λ done later. IsBroken setup done later replies journal dumps)
-      → Within units more (BreaksAt setup replies journal dumps stop)
-  breaks-in-journal units more replies journal dumps old new ScriptUnread cause late broken = absurd cause
-  breaks-in-journal units more replies journal dumps old new ScriptTooLong cause late broken = absurd cause
-  breaks-in-journal units more replies journal dumps old new RepliesUnwritten cause late broken = absurd cause
-  breaks-in-journal units more replies journal dumps old new JournalUnwritten cause late broken = within-none units more (BreaksAt setup replies journal dumps JournalUnwritten) late
-  breaks-in-journal units more replies journal dumps old new DumpUnmade cause late broken = absurd cause
-  breaks-in-journal units more replies journal dumps old new DumpUnwritten cause late broken = absurd cause
-  breaks-in-journal units more replies journal dumps old new DumpUnfinished cause late broken = absurd cause
-  breaks-in-journal units more replies journal dumps old new OutOfMemory cause late broken =
-      within-map units more (λ done later. IsBroken setup done later replies journal dumps) (BreaksAt setup replies journal dumps OutOfMemory) (λ done later b. b) broken
+  pub breaks-in-journal : (units more : List ScriptUnit) (out text : List ℕ) (dumps : List Made) (stop : JournalStop)
+      → IsBrokenInJournal setup units more out text dumps → Within units more (λ done later. IsBroken setup done later out text dumps)
+      → Within units more (BreaksAt setup out text dumps (of_journal stop))
+  breaks-in-journal units more out text dumps journal.Unwritten late broken = within-none units more (BreaksAt setup out text dumps JournalUnwritten) late
+  breaks-in-journal units more out text dumps journal.OutOfMemory late broken =
+      within-map units more (λ done later. IsBroken setup done later out text dumps) (BreaksAt setup out text dumps OutOfMemory) (λ done later b. b) broken
 
   -- a stop of a dump breaks off before its reply
-  pub breaks-in-dump : (replies journal : List ℕ) (dumps : List Made) (old new : FilesState) (stop : Stop) → DumpStops old new stop → (done later : List ScriptUnit)
-      → IsBrokenInDump setup done later replies journal dumps → BreaksAt setup replies journal dumps stop done later
-  breaks-in-dump replies journal dumps old new ScriptUnread cause done later broken = absurd cause
-  breaks-in-dump replies journal dumps old new ScriptTooLong cause done later broken = absurd cause
-  breaks-in-dump replies journal dumps old new RepliesUnwritten cause done later broken = absurd cause
-  breaks-in-dump replies journal dumps old new JournalUnwritten cause done later broken = absurd cause
-  breaks-in-dump replies journal dumps old new DumpUnmade cause done later broken = broken
-  breaks-in-dump replies journal dumps old new DumpUnwritten cause done later broken = broken
-  breaks-in-dump replies journal dumps old new DumpUnfinished cause done later broken = broken
-  breaks-in-dump replies journal dumps old new OutOfMemory cause done later broken = absurd cause
+  pub breaks-in-dump : (replies journal : List ℕ) (dumps : List Made) (stop : DumpStop) (done later : List ScriptUnit)
+      → IsBrokenInDump setup done later replies journal dumps → BreaksAt setup replies journal dumps (of_dump stop) done later
+  breaks-in-dump replies journal dumps dump.Unmade done later broken = broken
+  breaks-in-dump replies journal dumps dump.Unwritten done later broken = broken
+  breaks-in-dump replies journal dumps dump.Unfinished done later broken = broken

@@ -4,12 +4,21 @@ use Rattle.std.specs.Prelude.{IsErrAnd}
 use Rattle.std.proofs.lemmas.List.Elements.{All-head, Contains-append_right}
 use Rattle.backsim_io.specs.FilesInMemory.{Places, list_without}
 use Rattle.backsim_io.specs.State.{FilesState, SourceState, FileFault, SourceFault, Rises}
-use Rattle.session_loop.specs.declared.stop.Stop.{Stop}
-use Rattle.session_loop.specs.declared.stop.Stop.TheVariants.{ScriptUnread, ScriptTooLong, RepliesUnwritten, JournalUnwritten, DumpUnmade, DumpUnwritten, DumpUnfinished, OutOfMemory}
-use Rattle.session_loop.specs.declared.halt.Halt.{Halt}
-use Rattle.session_loop.specs.declared.halt.Halt.TheVariants.{JournalUnmade, Stopped, JournalUnfinished}
-use Rattle.session_loop.specs.Outside.{Outputs, Outside, OfFiles, Dumped, DumpedThenFault, JournalStops, StopsAt, UnitsStop, Served, ServedThenUnread, ScriptStops, SessionChanges, WorkChanges, FinishChanges, with_file, with_journal}
-use Rattle.session_loop.specs.inner.Outside.{RepliesStops, DumpStops, BeginChanges}
+use Rattle.session_loop.specs.declared.stop.JournalStop.{JournalStop}
+use Rattle.session_loop.specs.declared.stop.JournalStop.TheVariants as journal
+use Rattle.session_loop.specs.declared.stop.RepliesStop.{RepliesStop}
+use Rattle.session_loop.specs.declared.stop.RepliesStop.TheVariants as replies
+use Rattle.session_loop.specs.declared.stop.DumpStop.{DumpStop}
+use Rattle.session_loop.specs.declared.stop.DumpStop.TheVariants as dump
+use Rattle.session_loop.specs.declared.stop.UnitStop.{UnitStop}
+use Rattle.session_loop.specs.declared.stop.UnitStop.TheVariants.{OutOfMemory}
+use Rattle.session_loop.specs.declared.stop.ScriptStop.{ScriptStop}
+use Rattle.session_loop.specs.declared.halt.JournalHalt.{JournalHalt}
+use Rattle.session_loop.specs.declared.halt.JournalHalt.TheVariants.{Unmade, Stopped}
+use Rattle.session_loop.specs.declared.halt.Halt.TheVariants.{JournalUnfinished}
+use Rattle.session_loop.specs.Stops.{of_replies, of_journal, of_dump, of_begin}
+use Rattle.session_loop.specs.Outside.{Outputs, Outside, OfFiles, Dumped, DumpedThenFault, JournalStops, StopsAt, UnitsStop, Served, ServedThenStop, ServedThenUnread, ScriptStops, SessionHalts, JournalHalts, with_file, with_journal}
+use Rattle.session_loop.specs.inner.Outside.{RepliesStops, DumpStops}
 
 -- what holds of an error holds of the result that hands it on
 pub handed-on : {T E : Type 0} (C : Result T E → Type 0) (was : E) (result : Result T E) → IsErrAnd result (λ e. e ≡ was) → C (Err was) → C result
@@ -45,46 +54,31 @@ outputs-more a b c first next = record {
 }
 
 -- replies were not written
-stops-replies : (files : FilesState) (old new : ℕ) (stop : Stop) → RepliesStops old new stop → StopsAt (record { files = files; replies = old }) (record { files = files; replies = new }) stop
-stops-replies files old new ScriptUnread h = absurd h
-stops-replies files old new ScriptTooLong h = absurd h
-stops-replies files old new RepliesUnwritten rises = record { same = refl; rises = rises }
-stops-replies files old new JournalUnwritten h = absurd h
-stops-replies files old new DumpUnmade h = absurd h
-stops-replies files old new DumpUnwritten h = absurd h
-stops-replies files old new DumpUnfinished h = absurd h
-stops-replies files old new OutOfMemory same = ap (λ (n : ℕ). record { files = files; replies = n }) same
+stops-replies : (files : FilesState) (old new : ℕ) (stop : RepliesStop) → RepliesStops old new stop
+    → StopsAt (record { files = files; replies = old }) (record { files = files; replies = new }) (of_replies stop)
+stops-replies files old new replies.Unwritten rises = record { same = refl; rises = rises }
+stops-replies files old new replies.OutOfMemory same = ap (λ (n : ℕ). record { files = files; replies = n }) same
 
-pub of-replies : (files : FilesState) (old new : ℕ) (stop : Stop) → RepliesStops old new stop → UnitsStop (record { files = files; replies = old }) (record { files = files; replies = new }) stop
+pub of-replies : (files : FilesState) (old new : ℕ) (stop : RepliesStop) → RepliesStops old new stop
+    → UnitsStop (record { files = files; replies = old }) (record { files = files; replies = new }) (of_replies stop)
 of-replies files old new stop stops = record { files = files; dumped = dumped-none files; stops = stops-replies files old new stop stops }
 
-stops-journal : (replies : ℕ) (old new : FilesState) (stop : Stop) → JournalStops old new stop → StopsAt (record { files = old; replies = replies }) (record { files = new; replies = replies }) stop
-stops-journal replies old new ScriptUnread h = absurd h
-stops-journal replies old new ScriptTooLong h = absurd h
-stops-journal replies old new RepliesUnwritten h = absurd h
-stops-journal replies old new JournalUnwritten fault = record { same = refl; changed = fault }
-stops-journal replies old new DumpUnmade h = absurd h
-stops-journal replies old new DumpUnwritten h = absurd h
-stops-journal replies old new DumpUnfinished h = absurd h
-stops-journal replies old new OutOfMemory same = ap (λ (f : FilesState). record { files = f; replies = replies }) same
+stops-journal : (told : ℕ) (old new : FilesState) (stop : JournalStop) → JournalStops old new stop
+    → StopsAt (record { files = old; replies = told }) (record { files = new; replies = told }) (of_journal stop)
+stops-journal told old new journal.Unwritten fault = record { same = refl; changed = fault }
+stops-journal told old new journal.OutOfMemory same = ap (λ (f : FilesState). record { files = f; replies = told }) same
 
 -- the journal was not written, after the replies
-pub of-journal : (replies new_replies : ℕ) (old mid new : FilesState) (stop : Stop) → new_replies ≡ replies → mid ≡ old → JournalStops mid new stop
-    → UnitsStop (record { files = old; replies = replies }) (record { files = new; replies = new_replies }) stop
-of-journal replies new_replies old mid new stop calm same stops =
-    subst (λ n. UnitsStop (record { files = old; replies = replies }) (record { files = new; replies = n }) stop) (sym calm)
-    (record { files = old; dumped = dumped-none old; stops = stops-journal replies old new stop (subst (λ f. JournalStops f new stop) same stops) })
+pub of-journal : (told new_told : ℕ) (old mid new : FilesState) (stop : JournalStop) → new_told ≡ told → mid ≡ old → JournalStops mid new stop
+    → UnitsStop (record { files = old; replies = told }) (record { files = new; replies = new_told }) (of_journal stop)
+of-journal told new_told old mid new stop calm same stops =
+    subst (λ n. UnitsStop (record { files = old; replies = told }) (record { files = new; replies = n }) (of_journal stop)) (sym calm)
+    (record { files = old; dumped = dumped-none old; stops = stops-journal told old new stop (subst (λ f. JournalStops f new stop) same stops) })
 
 -- where the journal was not written, nothing was created
-pub journal-created : (old new : FilesState) (stop : Stop) → JournalStops old new stop → new.created ≡ old.created
-journal-created old new ScriptUnread h = absurd h
-journal-created old new ScriptTooLong h = absurd h
-journal-created old new RepliesUnwritten h = absurd h
-journal-created old new JournalUnwritten fault = ap (λ f. f.created) fault.same
-journal-created old new DumpUnmade h = absurd h
-journal-created old new DumpUnwritten h = absurd h
-journal-created old new DumpUnfinished h = absurd h
-journal-created old new OutOfMemory same = ap (λ f. f.created) same
+pub journal-created : (old new : FilesState) (stop : JournalStop) → JournalStops old new stop → new.created ≡ old.created
+journal-created old new journal.Unwritten fault = ap (λ f. f.created) fault.same
+journal-created old new journal.OutOfMemory same = ap (λ f. f.created) same
 
 -- neither changed
 pub same-outputs : (a b : Outputs) → a.files ≡ b.files → a.replies ≡ b.replies → a ≡ b
@@ -92,7 +86,7 @@ same-outputs a b files replies =
     ap (λ (f : FilesState). record { files = f; replies = a.replies }) files ∙ ap (λ (n : ℕ). record { files = b.files; replies = n }) replies
 
 -- dumps were made, and then units stopped
-pub dumped-then : (a b c : Outputs) (stop : Stop) → OfFiles Dumped a b → UnitsStop b c stop → UnitsStop a c stop
+pub dumped-then : (a b c : Outputs) (stop : UnitStop) → OfFiles Dumped a b → UnitsStop b c stop → UnitsStop a c stop
 dumped-then a b c stop first next = record {
   files = next.files;
   dumped = dumped-more a.files b.files next.files first.changed next.dumped;
@@ -106,24 +100,20 @@ dumped-only a b first = record { files = b.files; dumped = first.changed; stops 
 -- A dump.
 
 -- the file was not made, not written or not finished
-pub of-dump : (replies : ℕ) (old new : FilesState) (stop : Stop) → DumpStops old new stop
-    → UnitsStop (record { files = old; replies = replies }) (record { files = new; replies = replies }) stop
-of-dump replies old new stop stops = record { files = old; dumped = dumped-none old; stops = at stop stops }
-  where
-    at : (s : Stop) → DumpStops old new s → StopsAt (record { files = old; replies = replies }) (record { files = new; replies = replies }) s
-    at ScriptUnread h = h
-    at ScriptTooLong h = h
-    at RepliesUnwritten h = absurd h
-    at JournalUnwritten h = absurd h
-    at DumpUnmade h = record { same = refl; changed = h }
-    at DumpUnwritten h = record { same = refl; changed = h }
-    at DumpUnfinished h = record { same = refl; changed = h }
-    at OutOfMemory h = absurd h
+stops-dump : (told : ℕ) (old new : FilesState) (stop : DumpStop) → DumpStops old new stop
+    → StopsAt (record { files = old; replies = told }) (record { files = new; replies = told }) (of_dump stop)
+stops-dump told old new dump.Unmade fault = record { same = refl; changed = fault }
+stops-dump told old new dump.Unwritten fault = record { same = refl; changed = fault }
+stops-dump told old new dump.Unfinished fault = record { same = refl; changed = fault }
+
+pub of-dump : (told : ℕ) (old new : FilesState) (stop : DumpStop) → DumpStops old new stop
+    → UnitsStop (record { files = old; replies = told }) (record { files = new; replies = told }) (of_dump stop)
+of-dump told old new stop stops = record { files = old; dumped = dumped-none old; stops = stops-dump told old new stop stops }
 
 -- the file was finished, and the reply not written
-pub of-reply : (old mid : FilesState) (replies new_replies : ℕ) (stop : Stop) → mid ≡ record old { created = old.created + 1 } → RepliesStops replies new_replies stop
-    → UnitsStop (record { files = old; replies = replies }) (record { files = mid; replies = new_replies }) stop
-of-reply old mid replies new_replies stop is stops = record { files = mid; dumped = dumped-one old mid is; stops = stops-replies mid replies new_replies stop stops }
+pub of-reply : (old mid : FilesState) (told new_told : ℕ) (stop : RepliesStop) → mid ≡ record old { created = old.created + 1 } → RepliesStops told new_told stop
+    → UnitsStop (record { files = old; replies = told }) (record { files = mid; replies = new_told }) (of_replies stop)
+of-reply old mid told new_told stop is stops = record { files = mid; dumped = dumped-one old mid is; stops = stops-replies mid told new_told stop stops }
 
 -- the reply was written too
 pub dump-served : (old mid : FilesState) (replies new_replies : ℕ) → mid ≡ record old { created = old.created + 1 } → new_replies ≡ replies
@@ -142,20 +132,12 @@ served-more a b c first read next = record {
   outputs = outputs-more a.outputs b.outputs c.outputs first.outputs next;
 }
 
-script-stops : (old new : Outside) (stop : Stop) → new.script.faults ≡ old.script.faults → UnitsStop old.outputs new.outputs stop → ScriptStops old new stop
-script-stops old new ScriptUnread read stops = absurd stops.stops
-script-stops old new ScriptTooLong read stops = absurd stops.stops
-script-stops old new RepliesUnwritten read stops = record { read = read; outputs = stops }
-script-stops old new JournalUnwritten read stops = record { read = read; outputs = stops }
-script-stops old new DumpUnmade read stops = record { read = read; outputs = stops }
-script-stops old new DumpUnwritten read stops = record { read = read; outputs = stops }
-script-stops old new DumpUnfinished read stops = record { read = read; outputs = stops }
-script-stops old new OutOfMemory read stops = record { read = read; outputs = stops }
-
 -- more was read, and a unit of it stopped
-pub served-then : (a b c : Outside) (stop : Stop) → Served a b → c.script ≡ record b.script { left = c.script.left } → UnitsStop b.outputs c.outputs stop → ScriptStops a c stop
-served-then a b c stop first read stops =
-    script-stops a c stop (ap (λ (s : SourceState). s.faults) read ∙ first.read) (dumped-then a.outputs b.outputs c.outputs stop first.outputs stops)
+pub served-then : (a b c : Outside) (stop : UnitStop) → Served a b → c.script ≡ record b.script { left = c.script.left } → UnitsStop b.outputs c.outputs stop → ServedThenStop a c stop
+served-then a b c stop first read stops = record {
+  read = ap (λ (s : SourceState). s.faults) read ∙ first.read;
+  outputs = dumped-then a.outputs b.outputs c.outputs stop first.outputs stops;
+}
 
 -- no more could be read
 pub served-unread : (a b : Outside) (script : SourceState) → Served a b → SourceFault b.script script → ServedThenUnread a (record b { script = script })
@@ -202,71 +184,47 @@ dumped-fault a b c dumped fault =
       rises = subst (λ n. Rises n c.file_faults) faults fault.rises;
     }
 
--- the head was not written
-head-stops : (old : Outside) (new : FilesState) (stop : Stop) → JournalStops (with_file old.outputs.files) new stop
-    → ScriptStops (with_journal old) (record old { outputs = record old.outputs { files = new } }) stop
-head-stops old new stop stops =
-    script-stops (with_journal old) (record old { outputs = record old.outputs { files = new } }) stop refl
-    (of-journal old.outputs.replies old.outputs.replies (with_file old.outputs.files) (with_file old.outputs.files) new stop refl refl stops)
-
 -- the journal was not begun
-pub session-unbegun : {A : Type 0} (old : Outside) (new : FilesState) (halt : Halt) (result : Result A Halt) → IsErrAnd result (λ h. h ≡ halt) → BeginChanges {A = A} old.outputs.files new (Err halt)
-    → SessionChanges old (record old { outputs = record old.outputs { files = new } }) result
-session-unbegun old new halt result handed begins = handed-on (SessionChanges old (record old { outputs = record old.outputs { files = new } })) halt result handed (at halt begins)
-  where
-    at : (h : Halt) → BeginChanges {A = ℕ} old.outputs.files new (Err h) → SessionChanges {A = ℕ} old (record old { outputs = record old.outputs { files = new } }) (Err h)
-    at JournalUnmade fault = record { unread = refl; outputs = record { same = refl; changed = fault } }
-    at (Stopped stop) stops = head-stops old new stop stops
-    at JournalUnfinished h = absurd h
-
--- the journal was begun, and there was no memory
-pub session-unserved : (old : Outside) (new : FilesState) → new ≡ with_file old.outputs.files
-    → ScriptStops (with_journal old) (record old { outputs = record old.outputs { files = new } }) OutOfMemory
-session-unserved old new is = head-stops old new OutOfMemory is
+pub session-unbegun : (old : Outside) (new : FilesState) (halt : JournalHalt) → JournalHalts old.outputs.files new halt
+    → SessionHalts old (record old { outputs = record old.outputs { files = new } }) (of_begin halt)
+session-unbegun old new Unmade fault = record { unread = refl; outputs = record { same = refl; changed = fault } }
+session-unbegun old new (Stopped stop) stops = record { unread = refl; outputs = record { same = refl; changed = stops } }
 
 -- the script stopped
-pub session-stopped : (old new : Outside) (mid : FilesState) (stop : Stop) → mid ≡ with_file old.outputs.files
+pub session-stopped : (old new : Outside) (mid : FilesState) (stop : ScriptStop) → mid ≡ with_file old.outputs.files
     → ScriptStops (record old { outputs = record old.outputs { files = mid } }) new stop → ScriptStops (with_journal old) new stop
 session-stopped old new mid stop is stops = subst (λ (f : FilesState). ScriptStops (record old { outputs = record old.outputs { files = f } }) new stop) is stops
 
 -- it was served to its end
-pub session-ends : {A : Type 0} (old mid : Outside) (begun new : FilesState) (result : Result A Halt) → old.outputs.files.created ≡ 0
-    → Places old.outputs.files.created old.outputs.files.unfinished → begun ≡ with_file old.outputs.files
-    → Served (record old { outputs = record old.outputs { files = begun } }) mid → FinishChanges mid.outputs.files new result
-    → SessionChanges old (record mid { outputs = record mid.outputs { files = new } }) result
-session-ends {A = A} old mid begun new result none places is all finishes = at result finishes
-  where
-    served : Served (with_journal old) mid
-    served = subst (λ (f : FilesState). Served (record old { outputs = record old.outputs { files = f } }) mid) is all
+module _ (old mid : Outside) (begun new : FilesState) (is : begun ≡ with_file old.outputs.files) (all : Served (record old { outputs = record old.outputs { files = begun } }) mid) where
+  served : Served (with_journal old) mid
+  served = subst (λ (f : FilesState). Served (record old { outputs = record old.outputs { files = f } }) mid) is all
 
-    same : record mid.outputs { files = new } ≡ record old.outputs { files = new }
-    same = ap (λ (o : Outputs). record o { files = new }) served.outputs.same
+  same : record mid.outputs { files = new } ≡ record old.outputs { files = new }
+  same = ap (λ (o : Outputs). record o { files = new }) served.outputs.same
 
-    at : (r : Result A Halt) → FinishChanges mid.outputs.files new r → SessionChanges old (record mid { outputs = record mid.outputs { files = new } }) r
-    at (Ok done) ends =
-        let whole = journal-done old.outputs.files mid.outputs.files new none places served.outputs.changed ends in
-        let grows = served.outputs.changed.grows in
-        record {
-          read = served.read;
-          outputs = record {
-            same = same;
-            changed = subst (Dumped old.outputs.files) (sym whole) (record { same = refl; grows = omega (arith, grows) });
-          };
-        }
-    at (Err JournalUnmade) h = absurd h
-    at (Err (Stopped stop)) h = absurd h
-    at (Err JournalUnfinished) fault = record {
-      read = served.read;
-      outputs = record { same = same; changed = dumped-fault (with_file old.outputs.files) mid.outputs.files new served.outputs.changed fault };
-    }
+  -- and the journal finished
+  pub session-ends : old.outputs.files.created ≡ 0 → Places old.outputs.files.created old.outputs.files.unfinished
+      → new ≡ record mid.outputs.files { unfinished = list_without mid.outputs.files.unfinished 0 } → Served old (record mid { outputs = record mid.outputs { files = new } })
+  session-ends none places ends =
+      let whole = journal-done old.outputs.files mid.outputs.files new none places served.outputs.changed ends in
+      let grows = served.outputs.changed.grows in
+      record {
+        read = served.read;
+        outputs = record {
+          same = same;
+          changed = subst (Dumped old.outputs.files) (sym whole) (record { same = refl; grows = omega (arith, grows) });
+        };
+      }
+
+  -- or not
+  pub session-unfinished : FileFault mid.outputs.files new → SessionHalts old (record mid { outputs = record mid.outputs { files = new } }) JournalUnfinished
+  session-unfinished fault = record {
+    read = served.read;
+    outputs = record { same = same; changed = dumped-fault (with_file old.outputs.files) mid.outputs.files new served.outputs.changed fault };
+  }
 
 -- A session of one batch.
-
--- the journal was not begun
-pub work-unbegun : (old new : FilesState) (halt : Halt) → BeginChanges {A = ℕ} old new (Err halt) → WorkChanges {A = ℕ} old new (Err halt)
-work-unbegun old new JournalUnmade h = h
-work-unbegun old new (Stopped stop) h = h
-work-unbegun old new JournalUnfinished h = absurd h
 
 -- it was begun, and then finished
 pub work-finished : (old mid new : FilesState) → old.created ≡ 0 → Places old.created old.unfinished → mid ≡ with_file old

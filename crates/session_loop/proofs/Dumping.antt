@@ -28,16 +28,18 @@ use Rattle.session_meaning.proofs.Dumps.{begun-same, begun-one, begun-less}
 use Rattle.session_loop.specs.declared.desk.Desk.{Desk}
 use Rattle.session_loop.specs.declared.desk.Dumps.{Dumps}
 use Rattle.session_loop.specs.declared.desk.LastBatch.{LastBatch}
-use Rattle.session_loop.specs.declared.stop.Stop.{Stop}
-use Rattle.session_loop.specs.declared.setting.Setting.{Setting}
+use Rattle.session_loop.specs.declared.stop.RepliesStop.{RepliesStop}
+use Rattle.session_loop.specs.declared.stop.DumpStop.{DumpStop}
+use Rattle.session_loop.specs.declared.service.Service.{Service}
 use Rattle.unit_answers.specs.Stores.{cells_of, AreStores}
 use Rattle.session_loop.specs.Halting.{session_files}
-use Rattle.session_loop.specs.Serving.{memo_of, session_of}
+use Rattle.session_loop.specs.Serving.{BreaksAt, memo_of, session_of}
+use Rattle.session_loop.specs.Stops.{of_replies, of_dump}
 use Rattle.session_loop.specs.Outside.{Seen, seen, with_file}
 use Rattle.session_loop.specs.inner.Desks.{IsCount, IsReady, IsShowable, Keeps, KeepsDumps, Shows, refused_reply, refused_last}
 use Rattle.session_loop.specs.inner.Outside.{RepliesStops, DumpStops}
 use Rattle.session_loop.specs.inner.Growing.{Adds, GrowsPart, IsDumpPart}
-use Rattle.session_loop.specs.inner.Serving.{BreaksAt, UnitsServed, UnitsStopped}
+use Rattle.session_loop.specs.inner.Serving.{UnitsServed, UnitsStopped}
 use Rattle.session_loop.proofs.Breaking.{within-map, broken-at, dump-broken-at, breaks-in-reply, breaks-in-dump}
 use Rattle.session_loop.proofs.Changes.{of-dump, of-reply, dump-served as dump-changes}
 use Rattle.session_loop.proofs.Growing.{goes-none}
@@ -191,49 +193,49 @@ module _ (setup : Setup) where
 
 -- ---- units
 
-module _ (setting : Setting) (desk : Desk) (before : Seen) (ready : IsReady (memo_of setting) desk before.outputs.files) (file : List ℕ) where
+module _ (service : Service) (desk : Desk) (before : Seen) (ready : IsReady (memo_of service) desk before.outputs.files) (file : List ℕ) where
   -- no dump is made, and the reply says why
-  pub refusal-tells : (reply : VcdReply) → refused_reply desk.dumps file ≡ Some reply → (names : List (List ℕ)) (now : Course) → Keeps (session_of setting names) desk now
-      → IsServed (session_of setting names) now (Vcd file) (with_reply now (vcd_line file reply))
-  refusal-tells reply is names now keeps = sym (line-refused (session_of setting names) now file desk.dumps keeps.dumps reply is)
+  pub refusal-tells : (reply : VcdReply) → refused_reply desk.dumps file ≡ Some reply → (names : List (List ℕ)) (now : Course) → Keeps (session_of service names) desk now
+      → IsServed (session_of service names) now (Vcd file) (with_reply now (vcd_line file reply))
+  refusal-tells reply is names now keeps = sym (line-refused (session_of service names) now file desk.dumps keeps.dumps reply is)
 
-  count-is : (names : List (List ℕ)) (now : Course) → Keeps (session_of setting names) desk now → before.outputs.files.created ≡ length now.dumps + 1
-  count-is names now keeps = ready.count ∙ ap (λ n. n + 1) (as-many (session_of setting names) now [] desk.dumps keeps.dumps)
+  count-is : (names : List (List ℕ)) (now : Course) → Keeps (session_of service names) desk now → before.outputs.files.created ≡ length now.dumps + 1
+  count-is names now keeps = ready.count ∙ ap (λ n. n + 1) (as-many (session_of service names) now [] desk.dumps keeps.dumps)
 
   -- a dump is made
   module _ (last : LastBatch) (has : desk.dumps.last ≡ Some last) (free : refused_reply desk.dumps file ≡ None)
-      (text : List ℕ) (text-is : text ≡ vcd_of (wires_of setting.design.now last.items last.replies.items)) where
+      (text : List ℕ) (text-is : text ≡ vcd_of (wires_of service.design.now last.items last.replies.items)) where
     abbrev wires : List Wire
-    wires = wires_of setting.design.now last.items last.replies.items
+    wires = wires_of service.design.now last.items last.replies.items
 
     abbrev dump : Made
     dump = record { name = file; bytes = text }
 
-    leads : (names : List (List ℕ)) (now : Course) → Keeps (session_of setting names) desk now → with_dump now file wires ≡ with_vcd (session_of setting names) now file
-    leads names now keeps = sym (line-makes (session_of setting names) now file desk.dumps keeps.dumps last has free)
+    leads : (names : List (List ℕ)) (now : Course) → Keeps (session_of service names) desk now → with_dump now file wires ≡ with_vcd (session_of service names) now file
+    leads names now keeps = sym (line-makes (session_of service names) now file desk.dumps keeps.dumps last has free)
 
     one-more : (now : Course) → now.dumps ++ dump ∷ [] ≡ (with_dump now file wires).dumps
     one-more now = ap (λ bytes. now.dumps ++ record { name = file; bytes = bytes } ∷ []) text-is
 
-    go-on : (made : List Made → Type 0) (names : List (List ℕ)) (now : Course) (more : List Made) → Keeps (session_of setting names) desk now → Adds before.made made before.outputs.files.created more → (name journal : List ℕ)
+    go-on : (made : List Made → Type 0) (names : List (List ℕ)) (now : Course) (more : List Made) → Keeps (session_of service names) desk now → Adds before.made made before.outputs.files.created more → (name journal : List ℕ)
         → before.made (session_files name journal now.dumps) → made (session_files name journal (now.dumps ++ more))
     go-on made names now more keeps adds name journal was =
         let stand = count-is names now keeps in
         adds (session_files name journal now.dumps) (omega (arith, stand)) was
 
     -- the file couldn't be created, written or finished
-    pub dump-stopped : (files : FilesState) (made : List Made → Type 0) (more : List Made) (stop : Stop) → DumpStops before.outputs.files files stop → IsDumpPart file text more
+    pub dump-stopped : (files : FilesState) (made : List Made → Type 0) (more : List Made) (stop : DumpStop) → DumpStops before.outputs.files files stop → IsDumpPart file text more
         → Adds before.made made before.outputs.files.created more → files.created ≡ before.outputs.files.created + length more
-        → UnitsStopped setting desk (Vcd file ∷ []) before (seen files made before.outputs.replies before.written) stop
+        → UnitsStopped service desk (Vcd file ∷ []) before (seen files made before.outputs.replies before.written) (of_dump stop)
     dump-stopped files made more stop kind part adds created = record {
       stopped = λ names units now session keeps.
-          let setup : Setup = session_of setting names in
+          let setup : Setup = session_of service names in
           record {
             replies = now.out;
             journal = journal_of setup now;
             dumps = now.dumps ++ more;
-            broken = within-map units (Vcd file ∷ []) (λ done later. IsBrokenInDump setup done later now.out (journal_of setup now) (now.dumps ++ more)) (BreaksAt setup now.out (journal_of setup now) (now.dumps ++ more) stop)
-                (breaks-in-dump setup now.out (journal_of setup now) (now.dumps ++ more) before.outputs.files files stop kind)
+            broken = within-map units (Vcd file ∷ []) (λ done later. IsBrokenInDump setup done later now.out (journal_of setup now) (now.dumps ++ more)) (BreaksAt setup now.out (journal_of setup now) (now.dumps ++ more) (of_dump stop))
+                (breaks-in-dump setup now.out (journal_of setup now) (now.dumps ++ more) stop)
                 (dump-broken-at setup units file now (now.dumps ++ more) session (more, refl) (subst (λ (c : Course). AreBegun (now.dumps ++ more) c.dumps) (leads names now keeps) (begun now)));
             replied = goes-none before.written now.out;
             recorded = λ name. go-on made names now more keeps adds name (journal_of setup now);
@@ -256,19 +258,19 @@ module _ (setting : Setting) (desk : Desk) (before : Seen) (ready : IsReady (mem
       -- all of it
       pub dump-served : (later : Desk) → later.stores ≡ desk.stores → later.counts ≡ desk.counts → later.dumps.last ≡ desk.dumps.last → later.dumps.own ≡ desk.dumps.own
           → later.dumps.made.items ≡ desk.dumps.made.items ++ file ∷ [] → later.last_site ≡ desk.last_site → Grows before.written written line → faults ≡ before.outputs.replies
-          → UnitsServed setting desk later (Vcd file ∷ []) before (seen files made faults written)
+          → UnitsServed service desk later (Vcd file ∷ []) before (seen files made faults written)
       dump-served later stores counts same own names-are site replied calm = record {
-        ready = subst (IsReady (memo_of setting) later) (sym is) (record {
+        ready = subst (IsReady (memo_of service) later) (sym is) (record {
           desk = record {
-            stores = subst (λ s. AreStores (memo_of setting) s.items) (sym stores) ready.desk.stores;
-            shown = subst (IsShowable setting.design.now) (sym same) ready.desk.shown;
-            site = subst (λ s. IfSome s (λ at. at ≡ setting.design.now)) (sym site) ready.desk.site;
+            stores = subst (λ s. AreStores (memo_of service) s.items) (sym stores) ready.desk.stores;
+            shown = subst (IsShowable service.design.now) (sym same) ready.desk.shown;
+            site = subst (λ s. IfSome s (λ at. at ≡ service.design.now)) (sym site) ready.desk.site;
           };
           count = omega (arith, ready.count, ap length names-are, length-append desk.dumps.made.items (file ∷ []));
           unfinished = ready.unfinished;
         });
         served = λ names units now session keeps.
-            let setup : Setup = session_of setting names in
+            let setup : Setup = session_of service names in
             record {
               next = with_dump now file wires;
               session = Served (Vcd file) session (leads names now keeps);
@@ -289,10 +291,10 @@ module _ (setting : Setting) (desk : Desk) (before : Seen) (ready : IsReady (mem
       }
 
       -- or a part of it
-      pub reply-stopped : (stop : Stop) → RepliesStops before.outputs.replies faults stop → GrowsPart before.written written line → UnitsStopped setting desk (Vcd file ∷ []) before (seen files made faults written) stop
+      pub reply-stopped : (stop : RepliesStop) → RepliesStops before.outputs.replies faults stop → GrowsPart before.written written line → UnitsStopped service desk (Vcd file ∷ []) before (seen files made faults written) (of_replies stop)
       reply-stopped stop cause replied = record {
         stopped = λ names units now session keeps.
-            let setup : Setup = session_of setting names in
+            let setup : Setup = session_of service names in
             let next : Course = with_dump now file wires in
             let journal : List ℕ = journal_of setup now in
             let all : List Made = now.dumps ++ dump ∷ [] in
@@ -302,8 +304,8 @@ module _ (setting : Setting) (desk : Desk) (before : Seen) (ready : IsReady (mem
               replies = now.out ++ replied.0;
               journal = journal;
               dumps = all;
-              broken = within-map units (Vcd file ∷ []) (λ done later. IsBroken setup done later (now.out ++ replied.0) journal all) (BreaksAt setup (now.out ++ replied.0) journal all stop)
-                  (breaks-in-reply setup (now.out ++ replied.0) journal all before.outputs.replies faults stop cause)
+              broken = within-map units (Vcd file ∷ []) (λ done later. IsBroken setup done later (now.out ++ replied.0) journal all) (BreaksAt setup (now.out ++ replied.0) journal all (of_replies stop))
+                  (breaks-in-reply setup (now.out ++ replied.0) journal all stop)
                   (broken-at setup units (Vcd file) now next (now.out ++ replied.0) journal all session (leads names now keeps)
                   (prefix-more now.out replied.0) (prefix-same journal)
                   (prefix-behind now.out replied.0 (vcd_line file (replies.Made (length wires))) (subst (IsPrefix replied.0) line-is replied.1)) (prefix-same journal)

@@ -6,18 +6,18 @@ use Rattle.std.proofs.lemmas.List.Elements.{All-nil, All-replicate}
 use Rattle.cell_store.specs.Recency.{Contents, contents}
 use Rattle.journal_meaning.specs.Allowed.{IsRight}
 use Rattle.unit_answers.specs.Stores.{IsSized, AreStores, cells_of}
-use Rattle.session_loop.specs.declared.setting.Setting.{Setting}
+use Rattle.session_loop.specs.declared.service.Service.{Service}
 use Rattle.session_loop.specs.Serving.{memo_of}
 
 -- they are stores of the memo
-pub empty-are-stores : (setting : Setting) (stores : List Contents) → IsSized (memo_of setting) → stores ≡ replicate setting.sizes.shards (contents setting.sizes.cells []) → AreStores (memo_of setting) stores
-empty-are-stores setting stores sized are =
-    let none = contents setting.sizes.cells [] in
-    subst (AreStores (memo_of setting)) (sym are) (record {
+pub empty-are-stores : (service : Service) (stores : List Contents) → IsSized (memo_of service) → stores ≡ replicate service.sizes.shards (contents service.sizes.cells []) → AreStores (memo_of service) stores
+empty-are-stores service stores sized are =
+    let none = contents service.sizes.cells [] in
+    subst (AreStores (memo_of service)) (sym are) (record {
       sized = sized;
-      count = length-replicate setting.sizes.shards none;
-      capacity = All-replicate (λ (s : Contents). s.capacity ≡ setting.sizes.cells) setting.sizes.shards none refl;
-      right = All-replicate (λ (s : Contents). All (IsRight setting.design.now.circuit) s.cells) setting.sizes.shards none (All-nil (IsRight setting.design.now.circuit));
+      count = length-replicate service.sizes.shards none;
+      capacity = All-replicate (λ (s : Contents). s.capacity ≡ service.sizes.cells) service.sizes.shards none refl;
+      right = All-replicate (λ (s : Contents). All (IsRight service.design.now.circuit) s.cells) service.sizes.shards none (All-nil (IsRight service.design.now.circuit));
     })
 
 -- no cell is stored

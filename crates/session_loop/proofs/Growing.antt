@@ -8,7 +8,8 @@ use Rattle.backsim_io.specs.FilesInMemory.{files_with, FileGrows, FileGrowsByPre
 use Rattle.backsim_io.specs.State.{FilesState}
 use Rattle.session_meaning.specs.Broken.{IsPrefix}
 use Rattle.session_meaning.proofs.Journals.{prefix-again}
-use Rattle.session_loop.specs.declared.stop.Stop.{Stop}
+use Rattle.session_loop.specs.declared.stop.JournalStop.{JournalStop}
+use Rattle.session_loop.specs.declared.stop.RepliesStop.{RepliesStop}
 use Rattle.session_loop.specs.Halting.{session_files}
 use Rattle.session_loop.specs.Outside.{JournalStops}
 use Rattle.session_loop.specs.inner.Outside.{RepliesStops}
@@ -16,22 +17,22 @@ use Rattle.session_loop.specs.inner.Pieces.{RecordedPart, Records, RecordsBehind
 use Rattle.session_loop.specs.inner.Growing.{GoesOn, FilesGoOn, GrowsPart, FileGrowsPart, KeepsBack}
 
 -- the stop that a result hands on
-pub handed-part : {A : Type 0} {lines : List ℕ} {old new : FilesState} {made new_made : List Made → Type 0} {was : Stop} (result : Result A Stop) → IsErrAnd result (λ e. e ≡ was)
+pub handed-part : {A : Type 0} {lines : List ℕ} {old new : FilesState} {made new_made : List Made → Type 0} {was : JournalStop} (result : Result A JournalStop) → IsErrAnd result (λ e. e ≡ was)
     → RecordedPart lines was old made new new_made → Records lines result old made new new_made
 handed-part (Ok x) handed part = absurd handed
 handed-part {A} {lines} {old} {new} {made} {new_made} (Err e) handed part = subst (λ stop. RecordedPart lines stop old made new new_made) (sym handed) part
 
-pub handed-behind : {A : Type 0} (kept lines left : List ℕ) {old new : FilesState} {made new_made : List Made → Type 0} {was : Stop} (result : Result A Stop) → IsErrAnd result (λ e. e ≡ was)
+pub handed-behind : {A : Type 0} (kept lines left : List ℕ) {old new : FilesState} {made new_made : List Made → Type 0} {was : JournalStop} (result : Result A JournalStop) → IsErrAnd result (λ e. e ≡ was)
     → RecordedPart (kept ++ lines) was old made new new_made → RecordsBehind kept lines left result old made new new_made
 handed-behind kept lines left (Ok x) handed part = absurd handed
 handed-behind {A} kept lines left {old} {new} {made} {new_made} (Err e) handed part = subst (λ stop. RecordedPart (kept ++ lines) stop old made new new_made) (sym handed) part
 
-pub handed-replies : {A : Type 0} {text : List ℕ} {old new : ℕ} {out new_out : List ℕ → Type 0} {was : Stop} (result : Result A Stop) → IsErrAnd result (λ e. e ≡ was)
+pub handed-replies : {A : Type 0} {text : List ℕ} {old new : ℕ} {out new_out : List ℕ → Type 0} {was : RepliesStop} (result : Result A RepliesStop) → IsErrAnd result (λ e. e ≡ was)
     → RepliedPart text was old out new new_out → Replies text result old out new new_out
 handed-replies (Ok x) handed part = absurd handed
 handed-replies {A} {text} {old} {new} {out} {new_out} (Err e) handed part = subst (λ stop. RepliedPart text stop old out new new_out) (sym handed) part
 
-pub handed-replies-behind : {A : Type 0} (kept text left : List ℕ) {old new : ℕ} {out new_out : List ℕ → Type 0} {was : Stop} (result : Result A Stop) → IsErrAnd result (λ e. e ≡ was)
+pub handed-replies-behind : {A : Type 0} (kept text left : List ℕ) {old new : ℕ} {out new_out : List ℕ → Type 0} {was : RepliesStop} (result : Result A RepliesStop) → IsErrAnd result (λ e. e ≡ was)
     → RepliedPart (kept ++ text) was old out new new_out → RepliesBehind kept text left result old out new new_out
 handed-replies-behind kept text left (Ok x) handed part = absurd handed
 handed-replies-behind {A} kept text left {old} {new} {out} {new_out} (Err e) handed part = subst (λ stop. RepliedPart (kept ++ text) stop old out new new_out) (sym handed) part
@@ -120,7 +121,7 @@ left-none G whole left f none = subst G (sym (append-nil f.written) ∙ ap (λ l
 
 -- what was kept back is written at last
 module _ {A : Type 0} (a b c d : List ℕ) where
-  pub replies-last : (u v w : List ℕ → Type 0) (f : KeepsBack (Grows u v) a b c) (old mid new : ℕ) → mid ≡ old → (result : Result A Stop) → Replies (c ++ d) result mid v new w
+  pub replies-last : (u v w : List ℕ → Type 0) (f : KeepsBack (Grows u v) a b c) (old mid new : ℕ) → mid ≡ old → (result : Result A RepliesStop) → Replies (c ++ d) result mid v new w
       → Replies (a ++ (b ++ d)) result old u new w
   replies-last u v w f old mid new same (Ok x) done = record {
     written = keeps-whole (Grows u v) a b c d f (Grows v w) (Grows u w) (grows-more u v w) done.written;
@@ -131,7 +132,7 @@ module _ {A : Type 0} (a b c d : List ℕ) where
     state = subst (λ n. RepliesStops n new stop) same part.state;
   }
 
-  pub records-last : (u v w : List Made → Type 0) (f : KeepsBack (FileGrows u v 0) a b c) (old mid new : FilesState) → mid ≡ old → (result : Result A Stop) → Records (c ++ d) result mid v new w
+  pub records-last : (u v w : List Made → Type 0) (f : KeepsBack (FileGrows u v 0) a b c) (old mid new : FilesState) → mid ≡ old → (result : Result A JournalStop) → Records (c ++ d) result mid v new w
       → Records (a ++ (b ++ d)) result old u new w
   records-last u v w f old mid new same (Ok x) done = record {
     written = keeps-whole (FileGrows u v 0) a b c d f (FileGrows v w 0) (FileGrows u w 0) (file-more u v w 0) done.written;
@@ -162,7 +163,7 @@ module _ (u : List Made → Type 0) (slot : ℕ) (whole : List ℕ) where
         file-part-longer u w slot (f.written ++ part) whole (rest, sym f.same ∙ ap (λ l. f.written ++ l) parts ∙ sym (append_assoc f.written part rest)) (file-part-after u v w slot f.written part f.grows p)
 
 -- a first part of the lines is kept back already
-pub records-pushed : {A : Type 0} (old new : FilesState) (made new_made : List Made → Type 0) (kept first rest left : List ℕ) {more : List ℕ} → more ≡ kept ++ first → (result : Result A Stop)
+pub records-pushed : {A : Type 0} (old new : FilesState) (made new_made : List Made → Type 0) (kept first rest left : List ℕ) {more : List ℕ} → more ≡ kept ++ first → (result : Result A JournalStop)
     → RecordsBehind more rest left result old made new new_made → RecordsBehind kept (first ++ rest) left result old made new new_made
 records-pushed old new made new_made kept first rest left is (Ok x) done = record {
   kept = record { written = done.kept.written; grows = done.kept.grows; same = done.kept.same ∙ ap (λ l. l ++ rest) is ∙ append_assoc kept first rest };
@@ -174,7 +175,7 @@ records-pushed old new made new_made kept first rest left is (Err stop) part = r
 }
 
 -- what was kept back is written, and then all that comes after it
-pub records-after : {A : Type 0} (u v w : List Made → Type 0) (kept more left : List ℕ) (old mid new : FilesState) → mid ≡ old → FileGrows u v 0 kept → left ≡ [] → (result : Result A Stop)
+pub records-after : {A : Type 0} (u v w : List Made → Type 0) (kept more left : List ℕ) (old mid new : FilesState) → mid ≡ old → FileGrows u v 0 kept → left ≡ [] → (result : Result A JournalStop)
     → Records more result mid v new w → RecordsBehind kept more left result old u new w
 records-after u v w kept more left old mid new same f none (Ok x) done = record {
   kept = record { written = kept ++ more; grows = file-more u v w 0 kept more f done.written; same = ap (λ l. (kept ++ more) ++ l) none ∙ append-nil (kept ++ more) };
@@ -189,15 +190,15 @@ records-after u v w kept more left old mid new same f none (Err stop) part = rec
 pub goes-none : (w : List ℕ → Type 0) (before : List ℕ) → GoesOn w w before before
 goes-none w before = ([], sym (append-nil before), grows-none w)
 
-pub goes-more : (u v w : List ℕ → Type 0) (a b c : List ℕ) → GoesOn u v a b → GoesOn v w b c → GoesOn u w a c
-goes-more u v w a b c f g = (f.0 ++ g.0, g.1 ∙ ap (λ l. l ++ g.0) f.1 ∙ append_assoc a f.0 g.0, grows-more u v w f.0 g.0 f.2 g.2)
+pub goes-trans : (u v w : List ℕ → Type 0) (a b c : List ℕ) → GoesOn u v a b → GoesOn v w b c → GoesOn u w a c
+goes-trans u v w a b c f g = (f.0 ++ g.0, g.1 ∙ ap (λ l. l ++ g.0) f.1 ∙ append_assoc a f.0 g.0, grows-more u v w f.0 g.0 f.2 g.2)
 
 -- the files of a session that go on
 pub files-none : (m : List Made → Type 0) (journal : List ℕ) (dumps : List Made) → FilesGoOn m m journal dumps journal dumps
 files-none m journal dumps name h = h
 
-pub files-more : (u v w : List Made → Type 0) (a b c : List ℕ) (p q r : List Made) → FilesGoOn u v a p b q → FilesGoOn v w b q c r → FilesGoOn u w a p c r
-files-more u v w a b c p q r f g name h = g name (f name h)
+pub files-trans : (u v w : List Made → Type 0) (a b c : List ℕ) (p q r : List Made) → FilesGoOn u v a p b q → FilesGoOn v w b q c r → FilesGoOn u w a p c r
+files-trans u v w a b c p q r f g name h = g name (f name h)
 
 -- the journal is the first of them
 pub journal-grows : (u v : List Made → Type 0) (journal more : List ℕ) (dumps : List Made) → FileGrows u v 0 more → FilesGoOn u v journal dumps (journal ++ more) dumps

@@ -13,9 +13,6 @@ use Rattle.journal_meaning.specs.Replay.{replay, IsLegalBatch}
 use Rattle.journal_meaning.specs.Sections.{Asks, Forces, SectionEntries, cells_left, cells_after}
 use Rattle.journal_text.specs.Spelling.{section_lines}
 use Rattle.journal_text.specs.declared.sections.SectionKind.TheVariants.{Batch, Held}
-use Rattle.query_lines.specs.declared.line.Stuck.{Stuck}
-use Rattle.query_lines.specs.declared.unit.Asks.{Asks as QuestionAsks}
-use Rattle.query_lines.specs.declared.unit.Asks.TheVariants as kinds
 use Rattle.query_lines.specs.declared.unit.Question.{Question}
 use Rattle.query_lines.specs.declared.unit.Unit.{Unit as ScriptUnit}
 use Rattle.query_lines.specs.declared.unit.Unit.TheVariants as units
@@ -23,8 +20,8 @@ use Rattle.reply_lines.specs.declared.reply.QuestionReply.{QuestionReply}
 use Rattle.reply_lines.specs.Replies.{question_lines}
 use Rattle.design.specs.Joined.{Joined}
 use Rattle.session_meaning.specs.declared.Verdict.{Verdict}
-use Rattle.session_meaning.specs.declared.Verdict.TheVariants.{Ask, Unknown, Past, Bad}
-use Rattle.session_meaning.specs.Verdicts.{site_of, stuck_verdict}
+use Rattle.session_meaning.specs.declared.Verdict.TheVariants.{Ask, Unknown, Past}
+use Rattle.session_meaning.specs.Verdicts.{question_verdict, site_of}
 use Rattle.session_meaning.specs.Session.{Setup, Course, IsServed, question_batch, held_sections, own_sections, with_section, with_sections}
 use Rattle.session_meaning.specs.Questions.{IsOwnMemo}
 use Rattle.session_meaning.specs.StuckSignals.{held_batch, IsHeldMemo}
@@ -33,8 +30,8 @@ use Rattle.session_meaning.proofs.Journals.{journal-more}
 use Rattle.session_loop.specs.declared.desk.Counts.{Counts}
 use Rattle.session_loop.specs.declared.desk.Desk.{Desk}
 use Rattle.session_loop.specs.declared.desk.Dumps.{Dumps}
-use Rattle.session_loop.specs.declared.setting.Setting.{Setting}
-use Rattle.session_loop.specs.declared.stop.Stop.{Stop}
+use Rattle.session_loop.specs.declared.service.Service.{Service}
+use Rattle.session_loop.specs.declared.stop.UnitStop.{UnitStop}
 use Rattle.unit_answers.specs.Stores.{cells_of}
 use Rattle.unit_answers.specs.Done.{IsQuestionDone}
 use Rattle.session_loop.specs.inner.Desks.{IsCount, IsCounted, IsHeldCounted, IsReady, Keeps}
@@ -128,44 +125,41 @@ module _ (setup : Setup) where
         (done.serves now keeps) (question-journal now keeps) later (question-keeps now keeps later same stores dumps) wrote
 
     -- a part of the reply and a part of the sections
-    pub question-stopped : (stop : Stop) → WritesPart before after text question-text stop → before.outputs.files.created ≡ length desk.dumps.made.items + 1 → Stops setup desk (unit ∷ []) before after stop
+    pub question-stopped : (stop : UnitStop) → WritesPart before after text question-text stop → before.outputs.files.created ≡ length desk.dumps.made.items + 1 → Stops setup desk (unit ∷ []) before after stop
     question-stopped stop wrote many us now session keeps =
         sections-stopped setup us unit now desk session keeps before after ((now.sections ++ section ∷ []) ++ forced_sections own held) text now.waves question-text
         (done.serves now keeps) (question-journal now keeps) stop wrote many
 
-  module _ (line : ℕ) where
+  module _ (question : Question) where
     -- the batch of the memo of its own where a signal is stuck and a query is asked, and else any
-    abbrev asked-own : Stuck → Option Site → Verdict → BatchRecord
-    asked-own stuck (Some site) (Ask query) = held_batch setup.design.circuit site query
-    asked-own stuck site verdict = question_batch setup line (kinds.Stuck stuck)
+    abbrev batch-by : Option Site → Verdict → BatchRecord
+    batch-by (Some site) (Ask query) = held_batch setup.design.circuit site query
+    batch-by site verdict = question_batch setup question
 
-    abbrev pub own-batch : QuestionAsks → BatchRecord
-    own-batch (kinds.Stuck stuck) = asked-own stuck (site_of setup.design stuck) (stuck_verdict setup.design line stuck)
-    own-batch asks = question_batch setup line asks
+    abbrev pub own-batch : BatchRecord
+    own-batch = batch-by (site_of setup.design question.asks) (question_verdict setup.design question)
 
-    stuck-section : (stuck : Stuck) (site : Option Site) (verdict : Verdict) (held : List (List Entry)) → IsHeldMemo setup.design.circuit site verdict held
-        → forced_sections (asked-own stuck site verdict) held ≡ held_sections setup site verdict held
-    stuck-section stuck None verdict held memo = subst (λ l. forced_sections (asked-own stuck None verdict) l ≡ []) (sym memo) refl
-    stuck-section stuck (Some site) (Ask query) held memo =
+    section-by : (site : Option Site) (verdict : Verdict) (held : List (List Entry)) → IsHeldMemo setup.design.circuit site verdict held
+        → forced_sections (batch-by site verdict) held ≡ held_sections setup site verdict held
+    section-by None verdict held memo = subst (λ l. forced_sections (batch-by None verdict) l ≡ []) (sym memo) refl
+    section-by (Some site) (Ask query) held memo =
         let own = held_batch setup.design.circuit site query in
         subst (λ l. forced_sections own l ≡ record { purpose = Forces own; lists = l } ∷ []) (sym memo.1) refl
-    stuck-section stuck (Some site) Unknown held memo = subst (λ l. forced_sections (asked-own stuck (Some site) Unknown) l ≡ []) (sym memo) refl
-    stuck-section stuck (Some site) Past held memo = subst (λ l. forced_sections (asked-own stuck (Some site) Past) l ≡ []) (sym memo) refl
-    stuck-section stuck (Some site) Bad held memo = subst (λ l. forced_sections (asked-own stuck (Some site) Bad) l ≡ []) (sym memo) refl
+    section-by (Some site) Unknown held memo = subst (λ l. forced_sections (batch-by (Some site) Unknown) l ≡ []) (sym memo) refl
+    section-by (Some site) Past held memo = subst (λ l. forced_sections (batch-by (Some site) Past) l ≡ []) (sym memo) refl
 
-    own-section : (asks : QuestionAsks) (held : List (List Entry)) → IsOwnMemo setup.design line asks held → forced_sections (own-batch asks) held ≡ own_sections setup line asks held
-    own-section (kinds.Stuck stuck) held memo = stuck-section stuck (site_of setup.design stuck) (stuck_verdict setup.design line stuck) held memo
-    own-section asks held memo = subst (λ l. forced_sections (own-batch asks) l ≡ []) (sym memo) refl
+    own-section : (held : List (List Entry)) → IsOwnMemo setup.design question held → forced_sections own-batch held ≡ own_sections setup question held
+    own-section held memo = section-by (site_of setup.design question.asks) (question_verdict setup.design question) held memo
 
 -- what answers the question, by this text, is a unit of the session
-pub question-answered : (setting : Setting) (names : List (List ℕ)) (question : Question) (desk : Desk) (text : List ℕ) (reply : QuestionReply) (lists held : List (List Entry)) (left : List Contents)
-    → IsQuestionDone (memo_of setting) question.line question.asks desk.stores.items reply lists held left → text ≡ question_lines question.asks reply
-    → (let setup = session_of setting names in
-    IsAnswered setup desk (units.Question question) (question_batch setup question.line question.asks) (own-batch setup question.line question.asks) text lists held left)
-question-answered setting names question desk text reply lists held left done is =
-    let setup : Setup = session_of setting names in
-    let batch : BatchRecord = question_batch setup question.line question.asks in
-    let own : BatchRecord = own-batch setup question.line question.asks in
+pub question-answered : (service : Service) (names : List (List ℕ)) (question : Question) (desk : Desk) (text : List ℕ) (reply : QuestionReply) (lists held : List (List Entry)) (left : List Contents)
+    → IsQuestionDone (memo_of service) question desk.stores.items reply lists held left → text ≡ question_lines question reply
+    → (let setup = session_of service names in
+    IsAnswered setup desk (units.Question question) (question_batch setup question) (own-batch setup question) text lists held left)
+question-answered service names question desk text reply lists held left done is =
+    let setup : Setup = session_of service names in
+    let batch : BatchRecord = question_batch setup question in
+    let own : BatchRecord = own-batch setup question in
     subst (λ (t : List ℕ). IsAnswered setup desk (units.Question question) batch own t lists held left) (sym is) (record {
       serves = λ now keeps. record {
         lists = lists;
@@ -175,44 +169,42 @@ question-answered setting names question desk text reply lists held left done is
         legal = λ shard h. subst (λ cells. IsLegalBatch batch shard cells (get_or lists shard [])) (keeps.cells shard h) (done.legal shard h);
         memo = done.memo;
         right = done.right;
-        leads = ap (with_sections (with_section now (Asks batch) lists (question_lines question.asks reply))) (own-section setup question.line question.asks held done.memo);
+        leads = ap (with_sections (with_section now (Asks batch) lists (question_lines question reply))) (own-section setup question held done.memo);
       };
       leaves = done.leaves;
     })
 
 -- The question with all that is promised of it.
-module _ (setting : Setting) (desk : Desk) (before after : Seen) (ready : IsReady (memo_of setting) desk before.outputs.files)
+module _ (service : Service) (desk : Desk) (before after : Seen) (ready : IsReady (memo_of service) desk before.outputs.files)
     (question : Question) (text : List ℕ) (reply : QuestionReply) (lists held : List (List Entry)) (left : List Contents)
-    (done : IsQuestionDone (memo_of setting) question.line question.asks desk.stores.items reply lists held left) (is : text ≡ question_lines question.asks reply)
+    (done : IsQuestionDone (memo_of service) question desk.stores.items reply lists held left) (is : text ≡ question_lines question reply)
     (counts : Counts) (counted : IsCounted desk.counts Batch lists counts) where
   abbrev pub asked-lines : List ℕ
   asked-lines = section_lines (record { kind = Batch; number = counts.sections; shards = lists }) ++ held_text (counts.sections + 1) held
 
-  pub asked-served : (later : Desk) → IsHeldCounted counts held later.counts → later.stores.items ≡ left → later.dumps ≡ desk.dumps → IfSome later.last_site (λ last. last ≡ setting.design.now)
-      → WritesAll before after text asked-lines → UnitsServed setting desk later (units.Question question ∷ []) before after
+  pub asked-served : (later : Desk) → IsHeldCounted counts held later.counts → later.stores.items ≡ left → later.dumps ≡ desk.dumps → IfSome later.last_site (λ last. last ≡ service.design.now)
+      → WritesAll before after text asked-lines → UnitsServed service desk later (units.Question question ∷ []) before after
   asked-served later same stores dumps site wrote =
-      unit-served setting desk before after ready later (units.Question question) text asked-lines
-      (kept-desk setting desk before after ready later left done.stores stores dumps site) (ap (λ (d : Dumps). d.made.items) dumps) wrote
-      (λ names. let setup : Setup = session_of setting names in
-      question-served setup (units.Question question) (question_batch setup question.line question.asks) (own-batch setup question.line question.asks) desk text lists held left
-      (question-answered setting names question desk text reply lists held left done is) counts counted before after later same stores dumps wrote)
+      unit-served service desk before after ready later (units.Question question) text asked-lines
+      (kept-desk service desk before after ready later left done.stores stores dumps site) (ap (λ (d : Dumps). d.made.items) dumps) wrote
+      (λ names. let setup : Setup = session_of service names in
+      question-served setup (units.Question question) (question_batch setup question) (own-batch setup question) desk text lists held left
+      (question-answered service names question desk text reply lists held left done is) counts counted before after later same stores dumps wrote)
 
-  pub asked-stopped : (stop : Stop) → WritesPart before after text asked-lines stop → UnitsStopped setting desk (units.Question question ∷ []) before after stop
+  pub asked-stopped : (stop : UnitStop) → WritesPart before after text asked-lines stop → UnitsStopped service desk (units.Question question ∷ []) before after stop
   asked-stopped stop wrote = record {
-    stopped = λ names. let setup : Setup = session_of setting names in
-        question-stopped setup (units.Question question) (question_batch setup question.line question.asks) (own-batch setup question.line question.asks) desk text lists held left
-        (question-answered setting names question desk text reply lists held left done is) counts counted before after stop wrote ready.count;
+    stopped = λ names. let setup : Setup = session_of service names in
+        question-stopped setup (units.Question question) (question_batch setup question) (own-batch setup question) desk text lists held left
+        (question-answered service names question desk text reply lists held left done is) counts counted before after stop wrote ready.count;
     state = wrote.state;
   }
 
 -- a memo of its own has one shard at most
-stuck-few : (c : Circuit) (site : Option Site) (verdict : Verdict) (held : List (List Entry)) → IsHeldMemo c site verdict held → length held ≤ 1
-stuck-few c None verdict held memo = subst (λ l. length l ≤ 1) (sym memo) (omega arith)
-stuck-few c (Some site) (Ask query) held memo = subst (λ l. length l ≤ 1) (sym memo.1) (omega arith)
-stuck-few c (Some site) Unknown held memo = subst (λ l. length l ≤ 1) (sym memo) (omega arith)
-stuck-few c (Some site) Past held memo = subst (λ l. length l ≤ 1) (sym memo) (omega arith)
-stuck-few c (Some site) Bad held memo = subst (λ l. length l ≤ 1) (sym memo) (omega arith)
+few-by : (c : Circuit) (site : Option Site) (verdict : Verdict) (held : List (List Entry)) → IsHeldMemo c site verdict held → length held ≤ 1
+few-by c None verdict held memo = subst (λ l. length l ≤ 1) (sym memo) (omega arith)
+few-by c (Some site) (Ask query) held memo = subst (λ l. length l ≤ 1) (sym memo.1) (omega arith)
+few-by c (Some site) Unknown held memo = subst (λ l. length l ≤ 1) (sym memo) (omega arith)
+few-by c (Some site) Past held memo = subst (λ l. length l ≤ 1) (sym memo) (omega arith)
 
-pub held-few : (d : Joined) (line : ℕ) (asks : QuestionAsks) (held : List (List Entry)) → IsOwnMemo d line asks held → length held ≤ 1
-held-few d line (kinds.Stuck stuck) held memo = stuck-few d.circuit (site_of d stuck) (stuck_verdict d line stuck) held memo
-held-few d line asks held memo = subst (λ l. length l ≤ 1) (sym memo) (omega arith)
+pub held-few : (d : Joined) (question : Question) (held : List (List Entry)) → IsOwnMemo d question held → length held ≤ 1
+held-few d question held memo = few-by d.circuit (site_of d question.asks) (question_verdict d question) held memo

@@ -38,11 +38,14 @@ use Rattle.session_loop.specs.declared.desk.Counts.{Counts}
 use Rattle.session_loop.specs.declared.desk.Desk.{Desk}
 use Rattle.session_loop.specs.declared.desk.Dumps.{Dumps}
 use Rattle.session_loop.specs.declared.desk.LastBatch.{LastBatch}
-use Rattle.session_loop.specs.declared.setting.Setting.{Setting}
-use Rattle.session_loop.specs.declared.stop.Stop.{Stop}
-use Rattle.session_loop.specs.declared.stop.Stop.TheVariants.{OutOfMemory}
+use Rattle.session_loop.specs.declared.service.Service.{Service}
+use Rattle.session_loop.specs.declared.stop.JournalStop.{JournalStop}
+use Rattle.session_loop.specs.declared.stop.RepliesStop.{RepliesStop}
+use Rattle.session_loop.specs.declared.stop.UnitStop.{UnitStop}
+use Rattle.session_loop.specs.declared.stop.UnitStop.TheVariants.{OutOfMemory}
 use Rattle.session_loop.specs.Outside.{Outputs, Seen, seen, JournalStops, UnitsStop}
-use Rattle.session_loop.specs.Serving.{memo_of, session_of}
+use Rattle.session_loop.specs.Serving.{BreaksAt, memo_of, session_of}
+use Rattle.session_loop.specs.Stops.{of_replies, of_journal}
 use Rattle.session_loop.specs.inner.Outside.{RepliesStops}
 use Rattle.session_loop.specs.inner.Growing.{FilesGoOn, GrowsPart, FileGrowsPart}
 use Rattle.unit_answers.specs.Stores.{AreStores, cells_of}
@@ -50,10 +53,10 @@ use Rattle.unit_answers.specs.Done.{IsBatchDone, IsTrimDone}
 use Rattle.unit_answers.specs.Dumps.{IsOwnWave}
 use Rattle.unit_answers.proofs.Dumping.{done-waves}
 use Rattle.session_loop.specs.inner.Desks.{IsCount, IsCounted, batches_in, counted_lists, Shows, KeepsDumps, IsShowable, IsDesk, IsReady, Keeps}
-use Rattle.session_loop.specs.inner.Serving.{ServedTo, BreaksAt, Within, StoppedIn, Serves, Stops, StopsAfter, UnitsServed, UnitsStopped, ServesUnits}
+use Rattle.session_loop.specs.inner.Serving.{ServedTo, Within, StoppedIn, Serves, Stops, StopsAfter, UnitsServed, UnitsStopped, ServesUnits}
 use Rattle.session_loop.proofs.Breaking.{within-front, within-longer, within-map, within-none, broken-none, broken-at, breaks-longer, breaks-in-reply, breaks-in-journal}
 use Rattle.session_loop.proofs.Changes.{calm, dumped-only, of-replies, of-journal, journal-created, same-outputs}
-use Rattle.session_loop.proofs.Growing.{goes-none, goes-more, file-none, files-none, files-more, journal-grows}
+use Rattle.session_loop.proofs.Growing.{goes-none, goes-trans, file-none, files-none, files-trans, journal-grows}
 
 -- no entry of a memo of its own is counted
 none-counted : (lists : List (List Entry)) → sum_by (λ (entries : List Entry). 0) lists ≡ 0
@@ -98,11 +101,11 @@ cells-more shard cells left sections section was leaves =
     leaves ∙ ap (λ l. cells_left shard l section) was ∙ sym (fold-append (cells_left shard) [] sections (section ∷ []))
 
 -- a stop in the writing of replies, or of the journal
-abbrev pub OfReplies : Stop → Type 0
-OfReplies stop = (old : ℕ) × (new : ℕ) × RepliesStops old new stop
+abbrev pub OfReplies : UnitStop → Type 0
+OfReplies stop = (given : RepliesStop) × (stop ≡ of_replies given)
 
-abbrev pub OfJournal : Stop → Type 0
-OfJournal stop = (old : FilesState) × (new : FilesState) × JournalStops old new stop
+abbrev pub OfJournal : UnitStop → Type 0
+OfJournal stop = (given : JournalStop) × (stop ≡ of_journal given)
 
 -- All of a text was written, and all of the lines after it.
 pub record WritesAll (before after : Seen) (text lines : List ℕ) : Type 0 where
@@ -112,7 +115,7 @@ pub record WritesAll (before after : Seen) (text lines : List ℕ) : Type 0 wher
 
 -- A part of a text was written, and a part of the lines after it: of the lines only once all of the text was. The stop is one of the text,
 -- or of the lines, behind all of the text.
-pub record WritesPart (before after : Seen) (text lines : List ℕ) (stop : Stop) : Type 0 where
+pub record WritesPart (before after : Seen) (text lines : List ℕ) (stop : UnitStop) : Type 0 where
   pub replied : GrowsPart before.written after.written text
   pub recorded : FileGrowsPart before.made after.made 0 lines
   pub first : (replied.0 ≡ text) ⊎ (recorded.0 ≡ [])
@@ -130,25 +133,25 @@ module _ (before : Seen) (text lines : List ℕ) where
   }
 
   -- the text was begun
-  pub text-begun : (replies : ℕ) (written : List ℕ → Type 0) (stop : Stop) → RepliesStops before.outputs.replies replies stop → GrowsPart before.written written text
-      → WritesPart before (seen before.outputs.files before.made replies written) text lines stop
+  pub text-begun : (replies : ℕ) (written : List ℕ → Type 0) (stop : RepliesStop) → RepliesStops before.outputs.replies replies stop → GrowsPart before.written written text
+      → WritesPart before (seen before.outputs.files before.made replies written) text lines (of_replies stop)
   text-begun replies written stop cause replied = record {
     replied = replied;
     recorded = ([], (lines, refl), file-none before.made 0);
     first = inr refl;
-    cause = inl (before.outputs.replies, replies, cause);
+    cause = inl (stop, refl);
     created = refl;
     state = of-replies before.outputs.files before.outputs.replies replies stop cause;
   }
 
   -- the lines were begun
-  pub lines-begun : (files mid : FilesState) (made : List Made → Type 0) (replies : ℕ) (written : List ℕ → Type 0) (stop : Stop) → replies ≡ before.outputs.replies → mid ≡ before.outputs.files
-      → JournalStops mid files stop → Grows before.written written text → FileGrowsPart before.made made 0 lines → WritesPart before (seen files made replies written) text lines stop
+  pub lines-begun : (files mid : FilesState) (made : List Made → Type 0) (replies : ℕ) (written : List ℕ → Type 0) (stop : JournalStop) → replies ≡ before.outputs.replies → mid ≡ before.outputs.files
+      → JournalStops mid files stop → Grows before.written written text → FileGrowsPart before.made made 0 lines → WritesPart before (seen files made replies written) text lines (of_journal stop)
   lines-begun files mid made replies written stop calm same cause replied recorded = record {
     replied = (text, prefix-same text, replied);
     recorded = recorded;
     first = inl refl;
-    cause = inr ((mid, files, cause), refl);
+    cause = inr ((stop, refl), refl);
     created = journal-created mid files stop cause ∙ ap (λ f. f.created) same;
     state = of-journal before.outputs.replies replies before.outputs.files mid files stop calm same cause;
   }
@@ -188,7 +191,7 @@ module _ (setup : Setup) where
         }
 
         -- a part of the text and a part of the lines
-        module _ (stop : Stop) (wrote : WritesPart before after text lines stop) where
+        module _ (stop : UnitStop) (wrote : WritesPart before after text lines stop) where
           abbrev replies : List ℕ
           replies = now.out ++ wrote.replied.0
 
@@ -224,10 +227,13 @@ module _ (setup : Setup) where
           }
 
           by-cause : OfReplies stop ⊎ (OfJournal stop × (wrote.replied.0 ≡ text)) → Within units (unit ∷ []) (BreaksAt setup replies journal now.dumps stop)
-          by-cause (inl cause) =
-              within-map units (unit ∷ []) (λ done later. IsBroken setup done later replies journal now.dumps) (BreaksAt setup replies journal now.dumps stop)
-              (breaks-in-reply setup replies journal now.dumps cause.0 cause.1 stop cause.2) in-unit
-          by-cause (inr (cause, whole)) = breaks-in-journal setup units (unit ∷ []) replies journal now.dumps cause.0 cause.1 stop cause.2 (in-journal whole) in-unit
+          by-cause (inl (given, is)) =
+              subst (λ s. Within units (unit ∷ []) (BreaksAt setup replies journal now.dumps s)) (sym is)
+              (within-map units (unit ∷ []) (λ done later. IsBroken setup done later replies journal now.dumps) (BreaksAt setup replies journal now.dumps (of_replies given))
+              (breaks-in-reply setup replies journal now.dumps given) in-unit)
+          by-cause (inr ((given, is), whole)) =
+              subst (λ s. Within units (unit ∷ []) (BreaksAt setup replies journal now.dumps s)) (sym is)
+              (breaks-in-journal setup units (unit ∷ []) replies journal now.dumps given (in-journal whole) in-unit)
 
           pub sections-stopped : before.outputs.files.created ≡ length desk.dumps.made.items + 1 → StoppedIn setup units (unit ∷ []) now before after stop
           sections-stopped many = record {
@@ -267,7 +273,7 @@ module _ (setup : Setup) where
             })
 
         -- a part of its replies and a part of its section
-        pub section-stopped : (stop : Stop) → WritesPart before after text section-text stop → before.outputs.files.created ≡ length desk.dumps.made.items + 1 → StoppedIn setup units (unit ∷ []) now before after stop
+        pub section-stopped : (stop : UnitStop) → WritesPart before after text section-text stop → before.outputs.files.created ≡ length desk.dumps.made.items + 1 → StoppedIn setup units (unit ∷ []) now before after stop
         section-stopped stop wrote = sections-stopped (now.sections ++ section ∷ []) text waves section-text served journal-is stop wrote
 
     -- a reply alone
@@ -279,7 +285,7 @@ module _ (setup : Setup) where
         dumps = kept-dumps desk.dumps desk.dumps now (with_reply now text) refl refl refl keeps.dumps;
       })
 
-      pub reply-stopped : (stop : Stop) → WritesPart before after text [] stop → before.outputs.files.created ≡ length desk.dumps.made.items + 1 → StoppedIn setup units (unit ∷ []) now before after stop
+      pub reply-stopped : (stop : UnitStop) → WritesPart before after text [] stop → before.outputs.files.created ≡ length desk.dumps.made.items + 1 → StoppedIn setup units (unit ∷ []) now before after stop
       reply-stopped stop wrote = sections-stopped now.sections text now.waves [] served (sym (append-nil (journal_of setup now))) stop wrote
 
   -- nothing of the next units was written
@@ -313,12 +319,12 @@ module _ (setup : Setup) where
         next = g.next;
         session = subst (λ l. Session setup l g.next) (append_assoc units us vs) g.session;
         keeps = g.keeps;
-        replied = goes-more before.written mid.written after.written now.out f.next.out g.next.out f.replied g.replied;
-        recorded = files-more before.made mid.made after.made (journal_of setup now) (journal_of setup f.next) (journal_of setup g.next) now.dumps f.next.dumps g.next.dumps f.recorded g.recorded;
+        replied = goes-trans before.written mid.written after.written now.out f.next.out g.next.out f.replied g.replied;
+        recorded = files-trans before.made mid.made after.made (journal_of setup now) (journal_of setup f.next) (journal_of setup g.next) now.dumps f.next.dumps g.next.dumps f.recorded g.recorded;
       }
 
   -- a stop after units that were served
-  pub stops-after : (a b : Desk) (us vs : List ScriptUnit) (before mid after : Seen) (stop : Stop)
+  pub stops-after : (a b : Desk) (us vs : List ScriptUnit) (before mid after : Seen) (stop : UnitStop)
       → Serves setup a b us before mid → Stops setup b vs mid after stop → StopsAfter setup a us vs before after stop
   stops-after a b us vs before mid after stop first then units now session keeps =
       let f = first units now session keeps in
@@ -328,18 +334,18 @@ module _ (setup : Setup) where
         journal = g.journal;
         dumps = g.dumps;
         broken = g.broken;
-        replied = goes-more before.written mid.written after.written now.out f.next.out g.replies f.replied g.replied;
-        recorded = files-more before.made mid.made after.made (journal_of setup now) (journal_of setup f.next) g.journal now.dumps f.next.dumps g.dumps f.recorded g.recorded;
+        replied = goes-trans before.written mid.written after.written now.out f.next.out g.replies f.replied g.replied;
+        recorded = files-trans before.made mid.made after.made (journal_of setup now) (journal_of setup f.next) g.journal now.dumps f.next.dumps g.dumps f.recorded g.recorded;
         count = g.count;
       }
 
   -- no unit was served before
-  pub stops-now : (desk : Desk) (more : List ScriptUnit) (before after : Seen) (stop : Stop)
+  pub stops-now : (desk : Desk) (more : List ScriptUnit) (before after : Seen) (stop : UnitStop)
       → Stops setup desk more before after stop → StopsAfter setup desk [] more before after stop
   stops-now desk more before after stop stopped units now session keeps =
       subst (λ l. StoppedIn setup l more now before after stop) (sym (append-nil units)) (stopped units now session keeps)
 
-  pub stops-more : (a b : Desk) (us vs : List ScriptUnit) (before mid after : Seen) (stop : Stop)
+  pub stops-more : (a b : Desk) (us vs : List ScriptUnit) (before mid after : Seen) (stop : UnitStop)
       → Serves setup a b us before mid → Stops setup b vs mid after stop → Stops setup a (us ++ vs) before after stop
   stops-more a b us vs before mid after stop first then units now session keeps =
       let g = stops-after a b us vs before mid after stop first then units now session keeps in
@@ -354,7 +360,7 @@ module _ (setup : Setup) where
       }
 
   -- a stop in the first of these units
-  pub stops-longer : (desk : Desk) (us more : List ScriptUnit) (before after : Seen) (stop : Stop)
+  pub stops-longer : (desk : Desk) (us more : List ScriptUnit) (before after : Seen) (stop : UnitStop)
       → Stops setup desk us before after stop → Stops setup desk (us ++ more) before after stop
   stops-longer desk us more before after stop stopped units now session keeps =
       let s = stopped units now session keeps in
@@ -380,24 +386,24 @@ stored-from (x ∷ stores) first cells same =
 -- A unit that makes no dump, with all that is promised of it.
 
 -- the stop that a result hands on
-pub handed-stop : {setting : Setting} {desk : Desk} {units : List ScriptUnit} {before after : Seen} {was : Stop} (result : Result Desk Stop) → IsErrAnd result (λ e. e ≡ was)
-    → UnitsStopped setting desk units before after was → ServesUnits setting desk units result before after
+pub handed-stop : {service : Service} {desk : Desk} {units : List ScriptUnit} {before after : Seen} {was : UnitStop} (result : Result Desk UnitStop) → IsErrAnd result (λ e. e ≡ was)
+    → UnitsStopped service desk units before after was → ServesUnits service desk units result before after
 handed-stop (Ok later) handed stopped = absurd handed
-handed-stop {setting} {desk} {units} {before} {after} (Err stop) handed stopped = subst (UnitsStopped setting desk units before after) (sym handed) stopped
+handed-stop {service} {desk} {units} {before} {after} (Err stop) handed stopped = subst (UnitsStopped service desk units before after) (sym handed) stopped
 
 -- nothing of the next units was written
-pub units-none : {setting : Setting} {desk : Desk} {more : List ScriptUnit} (before : Seen) → IsReady (memo_of setting) desk before.outputs.files → UnitsStopped setting desk more before before OutOfMemory
-units-none {setting} {desk} {more} before ready = record {
-  stopped = λ names. stops-none (session_of setting names) desk more before ready.count;
+pub units-none : {service : Service} {desk : Desk} {more : List ScriptUnit} (before : Seen) → IsReady (memo_of service) desk before.outputs.files → UnitsStopped service desk more before before OutOfMemory
+units-none {service} {desk} {more} before ready = record {
+  stopped = λ names. stops-none (session_of service names) desk more before ready.count;
   state = dumped-only before.outputs before.outputs (calm before.outputs before.outputs refl);
 }
 
-module _ (setting : Setting) (desk : Desk) (before after : Seen) (ready : IsReady (memo_of setting) desk before.outputs.files) where
+module _ (service : Service) (desk : Desk) (before after : Seen) (ready : IsReady (memo_of service) desk before.outputs.files) where
   -- all was written
-  pub unit-served : (later : Desk) (unit : ScriptUnit) (text lines : List ℕ) → IsDesk (memo_of setting) later → later.dumps.made.items ≡ desk.dumps.made.items → WritesAll before after text lines
-      → ((names : List (List ℕ)) → Serves (session_of setting names) desk later (unit ∷ []) before after) → UnitsServed setting desk later (unit ∷ []) before after
+  pub unit-served : (later : Desk) (unit : ScriptUnit) (text lines : List ℕ) → IsDesk (memo_of service) later → later.dumps.made.items ≡ desk.dumps.made.items → WritesAll before after text lines
+      → ((names : List (List ℕ)) → Serves (session_of service names) desk later (unit ∷ []) before after) → UnitsServed service desk later (unit ∷ []) before after
   unit-served later unit text lines kept made wrote served = record {
-    ready = subst (IsReady (memo_of setting) later) (ap (λ (o : Outputs). o.files) (sym wrote.calm)) (record {
+    ready = subst (IsReady (memo_of service) later) (ap (λ (o : Outputs). o.files) (sym wrote.calm)) (record {
       desk = kept;
       count = ready.count ∙ ap (λ l. length l + 1) (sym made);
       unfinished = ready.unfinished;
@@ -407,85 +413,85 @@ module _ (setting : Setting) (desk : Desk) (before after : Seen) (ready : IsRead
   }
 
   -- what is kept for dumps stays
-  pub kept-desk : (later : Desk) (left : List Contents) → AreStores (memo_of setting) left → later.stores.items ≡ left → later.dumps ≡ desk.dumps → IfSome later.last_site (λ last. last ≡ setting.design.now)
-      → IsDesk (memo_of setting) later
+  pub kept-desk : (later : Desk) (left : List Contents) → AreStores (memo_of service) left → later.stores.items ≡ left → later.dumps ≡ desk.dumps → IfSome later.last_site (λ last. last ≡ service.design.now)
+      → IsDesk (memo_of service) later
   kept-desk later left are stores dumps site = record {
-    stores = subst (AreStores (memo_of setting)) (sym stores) are;
-    shown = subst (λ (d : Dumps). IsShowable setting.design.now d.last) (sym dumps) ready.desk.shown;
+    stores = subst (AreStores (memo_of service)) (sym stores) are;
+    shown = subst (λ (d : Dumps). IsShowable service.design.now d.last) (sym dumps) ready.desk.shown;
     site = site;
   }
 
   -- A batch.
-  module _ (items asked : List Item) (same : asked ≡ items) (replies : List Reply) (lists : List (List Entry)) (left : List Contents) (done : IsBatchDone (memo_of setting) asked desk.stores.items replies lists left)
+  module _ (items asked : List Item) (same : asked ≡ items) (replies : List Reply) (lists : List (List Entry)) (left : List Contents) (done : IsBatchDone (memo_of service) asked desk.stores.items replies lists left)
       (counts : Counts) (counted : IsCounted desk.counts Batch lists counts) where
-    answered : IsBatchDone (memo_of setting) items desk.stores.items replies lists left
-    answered = subst (λ l. IsBatchDone (memo_of setting) l desk.stores.items replies lists left) same done
+    answered : IsBatchDone (memo_of service) items desk.stores.items replies lists left
+    answered = subst (λ l. IsBatchDone (memo_of service) l desk.stores.items replies lists left) same done
 
     abbrev shown : Option (List Wire)
-    shown = Some (wires_of setting.design.now items replies)
+    shown = Some (wires_of service.design.now items replies)
 
     abbrev pub batch-lines : List ℕ
     batch-lines = section_lines (record { kind = Batch; number = counts.sections; shards = lists })
 
-    is-served : (names : List (List ℕ)) (now : Course) → Keeps (session_of setting names) desk now
-        → IsServed (session_of setting names) now (units.Batch items) (record (with_section now (Asks (batch_of (memo_of setting) items)) lists (replies_text items replies)) { waves = shown })
+    is-served : (names : List (List ℕ)) (now : Course) → Keeps (session_of service names) desk now
+        → IsServed (session_of service names) now (units.Batch items) (record (with_section now (Asks (batch_of (memo_of service) items)) lists (replies_text items replies)) { waves = shown })
     is-served names now keeps = record {
       lists = lists;
       replies = replies;
       count = answered.count;
-      legal = λ shard h. subst (λ cells. IsLegalBatch (batch_of (memo_of setting) items) shard cells (get_or lists shard [])) (keeps.cells shard h) (answered.legal shard h);
+      legal = λ shard h. subst (λ cells. IsLegalBatch (batch_of (memo_of service) items) shard cells (get_or lists shard [])) (keeps.cells shard h) (answered.legal shard h);
       right = answered.right;
       leads = refl;
     }
 
     -- its items and its replies are the last ones, and their waves can be shown
     pub batch-served : (later : Desk) (last : LastBatch) → later.counts ≡ counts → later.stores.items ≡ left → last.items ≡ items → last.replies.items ≡ replies
-        → later.dumps ≡ record { last = Some last; own = desk.dumps.own; made = desk.dumps.made } → IfSome later.last_site (λ last. last ≡ setting.design.now)
-        → IsWithin setting.design.now.circuit.horizon items → All (λ item. AsksByName item.what) items
-        → WritesAll before after (replies_text items replies) batch-lines → UnitsServed setting desk later (units.Batch items ∷ []) before after
+        → later.dumps ≡ record { last = Some last; own = desk.dumps.own; made = desk.dumps.made } → IfSome later.last_site (λ last. last ≡ service.design.now)
+        → IsWithin service.design.now.circuit.horizon items → All (λ item. AsksByName item.what) items
+        → WritesAll before after (replies_text items replies) batch-lines → UnitsServed service desk later (units.Batch items ∷ []) before after
     batch-served later last counts-are stores asks answers dumps site within by-name wrote =
         unit-served later (units.Batch items) (replies_text items replies) batch-lines
         (record {
-          stores = subst (AreStores (memo_of setting)) (sym stores) answered.stores;
-          shown = subst (λ (d : Dumps). IsShowable setting.design.now d.last) (sym dumps) (record {
-            within = subst (IsWithin setting.design.now.circuit.horizon) (sym asks) within;
+          stores = subst (AreStores (memo_of service)) (sym stores) answered.stores;
+          shown = subst (λ (d : Dumps). IsShowable service.design.now d.last) (sym dumps) (record {
+            within = subst (IsWithin service.design.now.circuit.horizon) (sym asks) within;
             named = subst (All (λ item. AsksByName item.what)) (sym asks) by-name;
-            waves = subst (λ l. AllZip (λ item reply. IsOwnWave setting.design.now.circuit (verdict_of setting.design.now item) reply) l last.replies.items) (sym asks)
-                (subst (AllZip (λ item reply. IsOwnWave setting.design.now.circuit (verdict_of setting.design.now item) reply) items) (sym answers)
-                (done-waves (memo_of setting) items desk.stores.items replies lists left answered));
+            waves = subst (λ l. AllZip (λ item reply. IsOwnWave service.design.now.circuit (verdict_of service.design.now item) reply) l last.replies.items) (sym asks)
+                (subst (AllZip (λ item reply. IsOwnWave service.design.now.circuit (verdict_of service.design.now item) reply) items) (sym answers)
+                (done-waves (memo_of service) items desk.stores.items replies lists left answered));
           });
           site = site;
         })
         (ap (λ (d : Dumps). d.made.items) dumps) wrote
         (λ names us now session keeps.
-        section-served (session_of setting names) us (units.Batch items) now desk session keeps before after (Asks (batch_of (memo_of setting) items)) lists (replies_text items replies) shown
+        section-served (session_of service names) us (units.Batch items) now desk session keeps before after (Asks (batch_of (memo_of service) items)) lists (replies_text items replies) shown
         (is-served names now keeps) counts.sections counted.sections
         later (subst (λ c. IsCounted desk.counts Batch lists c) (sym counts-are) counted) (λ shard h. ap (λ l. cells_of l shard) stores ∙ answered.leaves shard h)
         (record {
-          shows = subst (λ (d : Dumps). Shows setting.design.now d.last shown) (sym dumps)
-              (ap (λ l. wires_of setting.design.now l replies) (sym asks) ∙ ap (wires_of setting.design.now last.items) (sym answers));
+          shows = subst (λ (d : Dumps). Shows service.design.now d.last shown) (sym dumps)
+              (ap (λ l. wires_of service.design.now l replies) (sym asks) ∙ ap (wires_of service.design.now last.items) (sym answers));
           own = ap (λ d. d.own.items) dumps ∙ keeps.dumps.own;
           made = ap (λ d. d.made.items) dumps ∙ keeps.dumps.made;
         })
         wrote)
 
-    pub batch-stopped : (stop : Stop) → WritesPart before after (replies_text items replies) batch-lines stop → UnitsStopped setting desk (units.Batch items ∷ []) before after stop
+    pub batch-stopped : (stop : UnitStop) → WritesPart before after (replies_text items replies) batch-lines stop → UnitsStopped service desk (units.Batch items ∷ []) before after stop
     batch-stopped stop wrote = record {
       stopped = λ names us now session keeps.
-          section-stopped (session_of setting names) us (units.Batch items) now desk session keeps before after (Asks (batch_of (memo_of setting) items)) lists (replies_text items replies) shown
+          section-stopped (session_of service names) us (units.Batch items) now desk session keeps before after (Asks (batch_of (memo_of service) items)) lists (replies_text items replies) shown
           (is-served names now keeps) counts.sections counted.sections stop wrote ready.count;
       state = wrote.state;
     }
 
   -- A trim.
-  module _ (most : ℕ) (lists : List (List Entry)) (left : List Contents) (done : IsTrimDone (memo_of setting) most desk.stores.items lists left) (counts : Counts) (counted : IsCounted desk.counts Trim lists counts) where
+  module _ (most : ℕ) (lists : List (List Entry)) (left : List Contents) (done : IsTrimDone (memo_of service) most desk.stores.items lists left) (counts : Counts) (counted : IsCounted desk.counts Trim lists counts) where
     abbrev pub trim-text : List ℕ
     trim-text = trimmed_line (sum_by length lists)
 
     abbrev pub trim-lines : List ℕ
     trim-lines = section_lines (record { kind = Trim; number = counts.sections; shards = lists })
 
-    is-trimmed : (names : List (List ℕ)) (now : Course) → Keeps (session_of setting names) desk now → IsServed (session_of setting names) now (units.Trim most) (with_section now Trims lists trim-text)
+    is-trimmed : (names : List (List ℕ)) (now : Course) → Keeps (session_of service names) desk now → IsServed (session_of service names) now (units.Trim most) (with_section now Trims lists trim-text)
     is-trimmed names now keeps = record {
       lists = lists;
       count = done.count;
@@ -494,21 +500,21 @@ module _ (setting : Setting) (desk : Desk) (before after : Seen) (ready : IsRead
       leads = refl;
     }
 
-    pub trim-served : (later : Desk) → later.counts ≡ counts → later.stores.items ≡ left → later.dumps ≡ desk.dumps → IfSome later.last_site (λ last. last ≡ setting.design.now) → WritesAll before after trim-text trim-lines
-        → UnitsServed setting desk later (units.Trim most ∷ []) before after
+    pub trim-served : (later : Desk) → later.counts ≡ counts → later.stores.items ≡ left → later.dumps ≡ desk.dumps → IfSome later.last_site (λ last. last ≡ service.design.now) → WritesAll before after trim-text trim-lines
+        → UnitsServed service desk later (units.Trim most ∷ []) before after
     trim-served later counts-are stores dumps site wrote =
         unit-served later (units.Trim most) trim-text trim-lines
         (kept-desk later left done.stores stores dumps site)
         (ap (λ (d : Dumps). d.made.items) dumps) wrote
         (λ names us now session keeps.
-        section-served (session_of setting names) us (units.Trim most) now desk session keeps before after Trims lists trim-text now.waves (is-trimmed names now keeps) counts.sections counted.sections
+        section-served (session_of service names) us (units.Trim most) now desk session keeps before after Trims lists trim-text now.waves (is-trimmed names now keeps) counts.sections counted.sections
         later (subst (λ c. IsCounted desk.counts Trim lists c) (sym counts-are) counted) (λ shard h. ap (λ l. cells_of l shard) stores ∙ done.leaves shard h)
-        (kept-dumps (session_of setting names) desk.dumps later.dumps now (with_section now Trims lists trim-text) dumps refl refl keeps.dumps) wrote)
+        (kept-dumps (session_of service names) desk.dumps later.dumps now (with_section now Trims lists trim-text) dumps refl refl keeps.dumps) wrote)
 
-    pub trim-stopped : (stop : Stop) → WritesPart before after trim-text trim-lines stop → UnitsStopped setting desk (units.Trim most ∷ []) before after stop
+    pub trim-stopped : (stop : UnitStop) → WritesPart before after trim-text trim-lines stop → UnitsStopped service desk (units.Trim most ∷ []) before after stop
     trim-stopped stop wrote = record {
       stopped = λ names us now session keeps.
-          section-stopped (session_of setting names) us (units.Trim most) now desk session keeps before after Trims lists trim-text now.waves (is-trimmed names now keeps) counts.sections counted.sections
+          section-stopped (session_of service names) us (units.Trim most) now desk session keeps before after Trims lists trim-text now.waves (is-trimmed names now keeps) counts.sections counted.sections
           stop wrote ready.count;
       state = wrote.state;
     }
@@ -517,9 +523,9 @@ module _ (setting : Setting) (desk : Desk) (before after : Seen) (ready : IsRead
   abbrev pub told : List ℕ
   told = stats_line desk.counts.batches desk.counts.fills desk.counts.evictions (sum_by (λ s. length s.cells) desk.stores.items)
 
-  told-is : (names : List (List ℕ)) (now : Course) → Keeps (session_of setting names) desk now → told ≡ counts_line (session_of setting names) now.sections
+  told-is : (names : List (List ℕ)) (now : Course) → Keeps (session_of service names) desk now → told ≡ counts_line (session_of service names) now.sections
   told-is names now keeps =
-      let shards = setting.sizes.shards in
+      let shards = service.sizes.shards in
       let many : length desk.stores.items ≡ shards = ready.desk.stores.count in
       let below : (i : ℕ) → i < length desk.stores.items → i < shards = λ i h. omega (arith, h, many) in
       let cells = stored-from desk.stores.items 0 (λ shard. cells_after shard now.sections) (λ i h. keeps.cells i (below i h) ∙ ap (λ n. cells_after n now.sections) (omega arith)) in
@@ -528,18 +534,18 @@ module _ (setting : Setting) (desk : Desk) (before after : Seen) (ready : IsRead
       ∙ ap (λ n. stats_line (length (filter (λ s. is_batch s.purpose) now.sections)) n desk.counts.evictions (cells_stored shards now.sections)) keeps.counts.fills
       ∙ ap (λ n. stats_line (length (filter (λ s. is_batch s.purpose) now.sections)) (entries_that is_fill now.sections) n (cells_stored shards now.sections)) keeps.counts.evictions
 
-  pub counts-tell : (names : List (List ℕ)) (now : Course) → Keeps (session_of setting names) desk now → IsServed (session_of setting names) now units.Stats (with_reply now told)
+  pub counts-tell : (names : List (List ℕ)) (now : Course) → Keeps (session_of service names) desk now → IsServed (session_of service names) now units.Stats (with_reply now told)
   counts-tell names now keeps = ap (with_reply now) (told-is names now keeps)
 
   -- A reply alone, whatever it tells.
-  module _ (unit : ScriptUnit) (text : List ℕ) (tells : (names : List (List ℕ)) (now : Course) → Keeps (session_of setting names) desk now → IsServed (session_of setting names) now unit (with_reply now text)) where
-    pub told-served : WritesAll before after text [] → UnitsServed setting desk desk (unit ∷ []) before after
+  module _ (unit : ScriptUnit) (text : List ℕ) (tells : (names : List (List ℕ)) (now : Course) → Keeps (session_of service names) desk now → IsServed (session_of service names) now unit (with_reply now text)) where
+    pub told-served : WritesAll before after text [] → UnitsServed service desk desk (unit ∷ []) before after
     told-served wrote =
         unit-served desk unit text [] ready.desk refl wrote
-        (λ names us now session keeps. reply-served (session_of setting names) us unit now desk session keeps before after text (tells names now keeps) wrote)
+        (λ names us now session keeps. reply-served (session_of service names) us unit now desk session keeps before after text (tells names now keeps) wrote)
 
-    pub told-stopped : (stop : Stop) → WritesPart before after text [] stop → UnitsStopped setting desk (unit ∷ []) before after stop
+    pub told-stopped : (stop : UnitStop) → WritesPart before after text [] stop → UnitsStopped service desk (unit ∷ []) before after stop
     told-stopped stop wrote = record {
-      stopped = λ names us now session keeps. reply-stopped (session_of setting names) us unit now desk session keeps before after text (tells names now keeps) stop wrote ready.count;
+      stopped = λ names us now session keeps. reply-stopped (session_of service names) us unit now desk session keeps before after text (tells names now keeps) stop wrote ready.count;
       state = wrote.state;
     }

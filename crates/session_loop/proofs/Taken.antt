@@ -9,9 +9,9 @@ use Rattle.query_lines.specs.Fit.{IsFit}
 use Rattle.query_lines.proofs.OwnLines.{units-fit, given-fit, last-fit}
 use Rattle.session_loop.specs.declared.desk.Desk.{Desk}
 use Rattle.session_loop.specs.declared.script.Script.{Script}
-use Rattle.session_loop.specs.declared.setting.Setting.{Setting}
-use Rattle.session_loop.specs.declared.stop.Stop.{Stop}
-use Rattle.session_loop.specs.declared.stop.Stop.TheVariants.{OutOfMemory}
+use Rattle.session_loop.specs.declared.service.Service.{Service}
+use Rattle.session_loop.specs.declared.stop.UnitStop.{UnitStop}
+use Rattle.session_loop.specs.declared.stop.UnitStop.TheVariants.{OutOfMemory}
 use Rattle.session_loop.specs.Outside.{Seen}
 use Rattle.session_loop.specs.Serving.{memo_of, session_of}
 use Rattle.session_loop.specs.inner.Desks.{IsReady}
@@ -47,21 +47,21 @@ reads-more a b c xs ys us vs first next horizon script given read =
     (next horizon (script ++ xs) (given ++ us) (first horizon script given read)))
 
 -- the stop that a result hands on
-pub handed-bytes : {setting : Setting} (old new : Script) {bytes : List ℕ} {desk : Desk} {before after : Seen} {was : Stop} (result : Result Desk Stop) → IsErrAnd result (λ e. e ≡ was)
-    → BytesStopped setting old.reader bytes desk before after was → ServesBytes setting old new bytes desk result before after
+pub handed-bytes : {service : Service} (old new : Script) {bytes : List ℕ} {desk : Desk} {before after : Seen} {was : UnitStop} (result : Result Desk UnitStop) → IsErrAnd result (λ e. e ≡ was)
+    → BytesStopped service old.reader bytes desk before after was → ServesBytes service old new bytes desk result before after
 handed-bytes old new (Ok later) handed stopped = absurd handed
-handed-bytes {setting} old new {bytes} {desk} {before} {after} (Err stop) handed stopped = subst (BytesStopped setting old.reader bytes desk before after) (sym handed) stopped
+handed-bytes {service} old new {bytes} {desk} {before} {after} (Err stop) handed stopped = subst (BytesStopped service old.reader bytes desk before after) (sym handed) stopped
 
-module _ (setting : Setting) where
-  pub takes-none : (script : Script) (desk : Desk) (before : Seen) → IsReady (memo_of setting) desk before.outputs.files → BytesServed setting script script [] desk desk before before
+module _ (service : Service) where
+  pub takes-none : (script : Script) (desk : Desk) (before : Seen) → IsReady (memo_of service) desk before.outputs.files → BytesServed service script script [] desk desk before before
   takes-none script desk before ready = record { taken = omega arith; units = []; reads = reads-none script.reader; served = units-first desk before ready }
 
-  module _ (a b : Script) (bytes : List ℕ) (i : ℕ) (x y : Desk) (before mid : Seen) (first : BytesServed setting a b (take i bytes) x y before mid) where
+  module _ (a b : Script) (bytes : List ℕ) (i : ℕ) (x y : Desk) (before mid : Seen) (first : BytesServed service a b (take i bytes) x y before mid) where
     -- the reader takes the next byte, and its units are served
     pub takes-next : (c : Script) (units : List ScriptUnit) (z : Desk) (after : Seen) → i < length bytes → c.taken ≡ b.taken + 1 → Reads b.reader c.reader (get_or bytes i 0 ∷ []) units
-        → UnitsServed setting y z units mid after → BytesServed setting a c (take (i + 1) bytes) x z before after
+        → UnitsServed service y z units mid after → BytesServed service a c (take (i + 1) bytes) x z before after
     takes-next c units z after within one reads served =
-        subst (λ l. BytesServed setting a c l x z before after) (sym (take_more bytes i 0 within)) (record {
+        subst (λ l. BytesServed service a c l x z before after) (sym (take_more bytes i 0 within)) (record {
           taken = omega (arith, one, first.taken, length-append (take i bytes) (get_or bytes i 0 ∷ []));
           units = first.units ++ units;
           reads = reads-more a.reader b.reader c.reader (take i bytes) (get_or bytes i 0 ∷ []) first.units units first.reads reads;
@@ -69,11 +69,11 @@ module _ (setting : Setting) where
         })
 
     -- all bytes were taken
-    pub takes-all : length bytes ≤ i → BytesServed setting a b bytes x y before mid
-    takes-all all = subst (λ l. BytesServed setting a b l x y before mid) (take_all i bytes all) first
+    pub takes-all : length bytes ≤ i → BytesServed service a b bytes x y before mid
+    takes-all all = subst (λ l. BytesServed service a b l x y before mid) (take_all i bytes all) first
 
     -- no further unit was given
-    pub takes-rest : BytesStopped setting a.reader bytes x before mid OutOfMemory
+    pub takes-rest : BytesStopped service a.reader bytes x before mid OutOfMemory
     takes-rest = record {
       front = take i bytes;
       last = [];
@@ -85,14 +85,14 @@ module _ (setting : Setting) where
       units = [];
       gave = first.reads;
       reads = reads-none b.reader;
-      stopped = λ names. let setup = session_of setting names in
+      stopped = λ names. let setup = session_of service names in
           stops-after setup x y first.units [] before mid mid OutOfMemory (first.served.served names) (stops-none setup y [] mid first.served.ready.count);
       state = dumped-only before.outputs mid.outputs first.served.state;
     }
 
     -- the session broke off in the units that a byte gave
-    pub takes-stop : (later : Reader) (units : List ScriptUnit) (after : Seen) (stop : Stop) → i < length bytes → Reads b.reader later (get_or bytes i 0 ∷ []) units
-        → UnitsStopped setting y units mid after stop → BytesStopped setting a.reader bytes x before after stop
+    pub takes-stop : (later : Reader) (units : List ScriptUnit) (after : Seen) (stop : UnitStop) → i < length bytes → Reads b.reader later (get_or bytes i 0 ∷ []) units
+        → UnitsStopped service y units mid after stop → BytesStopped service a.reader bytes x before after stop
     takes-stop later units after stop within reads stopped = record {
       front = take i bytes;
       last = get_or bytes i 0 ∷ [];
@@ -104,14 +104,14 @@ module _ (setting : Setting) where
       units = units;
       gave = first.reads;
       reads = reads;
-      stopped = λ names. stops-after (session_of setting names) x y first.units units before mid after stop (first.served.served names) (stopped.stopped names);
+      stopped = λ names. stops-after (session_of service names) x y first.units units before mid after stop (first.served.served names) (stopped.stopped names);
       state = dumped-then before.outputs mid.outputs after.outputs stop first.served.state stopped.state;
     }
 
-  pub ends-so : (reader : Reader) (units : List ScriptUnit) (x : Desk) (before after : Seen) (result : Result Desk Stop) → Ends reader units → ServesUnits setting x units result before after
-      → ServesEnd setting reader x result before after
+  pub ends-so : (reader : Reader) (units : List ScriptUnit) (x : Desk) (before after : Seen) (result : Result Desk UnitStop) → Ends reader units → ServesUnits service x units result before after
+      → ServesEnd service reader x result before after
   ends-so reader units x before after (Ok y) whole served = record { units = units; whole = whole; served = served }
   ends-so reader units x before after (Err stop) whole stopped = record { units = units; whole = inl whole; stopped = stopped }
 
-  pub ends-none : (reader : Reader) (x : Desk) (before : Seen) → IsReady (memo_of setting) x before.outputs.files → EndStopped setting reader x before before OutOfMemory
+  pub ends-none : (reader : Reader) (x : Desk) (before : Seen) → IsReady (memo_of service) x before.outputs.files → EndStopped service reader x before before OutOfMemory
   ends-none reader x before ready = record { units = []; whole = inr refl; stopped = units-none before ready }

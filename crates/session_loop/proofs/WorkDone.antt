@@ -18,8 +18,8 @@ use Rattle.session_meaning.specs.Broken.{IsPrefix, journal_of}
 use Rattle.session_meaning.proofs.Journals.{journal-more, prefix-behind}
 use Rattle.unit_answers.specs.Stores.{cells_of}
 use Rattle.unit_answers.specs.Done.{IsBatchDone}
-use Rattle.session_loop.specs.declared.halt.Halt.{Halt}
-use Rattle.session_loop.specs.declared.halt.Halt.TheVariants.{JournalUnmade, Stopped, JournalUnfinished}
+use Rattle.session_loop.specs.declared.halt.JournalHalt.{JournalHalt}
+use Rattle.session_loop.specs.declared.halt.JournalHalt.TheVariants.{Unmade, Stopped}
 use Rattle.session_loop.specs.inner.Growing.{FileGrowsPart}
 use Rattle.session_loop.specs.Halting.{Stands, WroteJournal, IsWork, IsWorkBegun, IsWorkHalted}
 use Rattle.session_loop.specs.inner.Halting.{IsHeadHalted}
@@ -30,10 +30,9 @@ module _ (setup : Setup) (items : List Item) (name : List ℕ) where
   pub work-unbegun : (part : List ℕ) (m0 m1 : List Made → Type 0) → IsPrefix part (head_line setup.shards setup.capacity) → Stands name part m0 m1 → WroteJournal (IsWorkBegun setup items) name m0 m1
   work-unbegun part m0 m1 prefix stands = record { journal = part; are = inl prefix; created = stands }
 
-  pub work-head-halted : (m0 m1 : List Made → Type 0) (files new_files : ℕ) (halt : Halt) → IsHeadHalted name (head_line setup.shards setup.capacity) m0 m1 files new_files halt → IsWorkHalted setup items name m0 m1 halt
-  work-head-halted m0 m1 files new_files JournalUnmade h = h.0
+  pub work-head-halted : (m0 m1 : List Made → Type 0) (files new_files : ℕ) (halt : JournalHalt) → IsHeadHalted name (head_line setup.shards setup.capacity) m0 m1 files new_files halt → IsWorkHalted setup items name m0 m1 halt
+  work-head-halted m0 m1 files new_files Unmade h = h.0
   work-head-halted m0 m1 files new_files (Stopped stop) h = work-unbegun h.0 m0 m1 h.1 h.2
-  work-head-halted m0 m1 files new_files JournalUnfinished h = absurd h
 
   -- The batch was answered over empty stores.
   module _ (opening left : List Contents) (empty : (shard : ℕ) → shard < setup.shards → cells_of opening shard ≡ []) (replies : List Reply) (lists : List (List Entry)) (done : IsBatchDone setup items opening replies lists left) where

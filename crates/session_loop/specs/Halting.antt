@@ -1,5 +1,5 @@
 -- A session with its journal, from the creation of the file to its end.
-use Rattle.std.specs.Prelude.{◌≡◌, ⊤, ℕ, ◌+◌, ◌≤◌, ◌⊎◌, List, [], ◌∷◌, length, Option, Some, Result, Ok, Err}
+use Rattle.std.specs.Prelude.{◌≡◌, ℕ, ◌+◌, ◌≤◌, ◌⊎◌, List, [], ◌∷◌, length, Option, Some, Result, Ok, Err}
 use Rattle.std.specs.Io.KnownBytes.{IsAtEnd}
 use Rattle.backsim_io.specs.Counts.{Grows, Stays}
 use Rattle.owned_text.specs.Made.{Made}
@@ -11,10 +11,10 @@ use Rattle.reply_lines.specs.declared.reply.Reply.{Reply}
 use Rattle.session_meaning.specs.Replies.{replies_text}
 use Rattle.session_meaning.specs.Session.{Setup, Course, first_course, IsBatchServed, IsSessionOf}
 use Rattle.session_meaning.specs.Broken.{IsPrefix, journal_of, IsHeadBegun, IsBrokenInJournal}
-use Rattle.session_loop.specs.declared.stop.Stop.{Stop}
-use Rattle.session_loop.specs.declared.stop.Stop.TheVariants.{ScriptUnread, ScriptTooLong, RepliesUnwritten, JournalUnwritten, DumpUnmade, DumpUnwritten, DumpUnfinished, OutOfMemory}
+use Rattle.session_loop.specs.declared.halt.JournalHalt.{JournalHalt}
+use Rattle.session_loop.specs.declared.halt.JournalHalt.TheVariants as journals
 use Rattle.session_loop.specs.declared.halt.Halt.{Halt}
-use Rattle.session_loop.specs.declared.halt.Halt.TheVariants.{JournalUnmade, Stopped, JournalUnfinished}
+use Rattle.session_loop.specs.declared.halt.Halt.TheVariants.{JournalUnmade, Unbegun, Stopped, JournalUnfinished}
 use Rattle.session_loop.specs.Outside.{Seen}
 use Rattle.session_loop.specs.Serving.{IsStopped}
 
@@ -37,28 +37,16 @@ pub record WroteFiles (such : List ℕ → List ℕ → List Made → Type 0) (n
   pub created : made [] → new_made (session_files name journal dumps)
   pub count : files ≡ length dumps + 1
 
--- the stops that come before the script is read: the head is not written, or there is no memory
-abbrev pub IsEarly : Stop → Type 0
-IsEarly ScriptUnread = ⊥
-IsEarly ScriptTooLong = ⊥
-IsEarly RepliesUnwritten = ⊥
-IsEarly JournalUnwritten = ⊤
-IsEarly DumpUnmade = ⊥
-IsEarly DumpUnwritten = ⊥
-IsEarly DumpUnfinished = ⊥
-IsEarly OutOfMemory = ⊤
-
 -- the source was not read, and a part of the head at most was written
-pub record IsUnbegun (setup : Setup) (old_left left : Option (List ℕ)) (stop : Stop) (replies journal : List ℕ) (dumps : List Made) : Type 0 where
-  pub early : IsEarly stop
+pub record IsUnbegun (setup : Setup) (old_left left : Option (List ℕ)) (replies journal : List ℕ) (dumps : List Made) : Type 0 where
   pub unread : left ≡ old_left
   pub head : IsHeadBegun setup replies journal dumps
 
 -- what stands where a session halts
 abbrev pub IsHalted : Setup → List ℕ → List ℕ → Option (List ℕ) → Option (List ℕ) → (List ℕ → Type 0) → (List ℕ → Type 0) → (List Made → Type 0) → (List Made → Type 0) → ℕ → Halt → Type 0
 IsHalted setup name script old_left left out new_out made new_made files JournalUnmade = Stays out new_out × SameMade made new_made × (left ≡ old_left)
-IsHalted setup name script old_left left out new_out made new_made files (Stopped stop) =
-    WroteFiles (IsUnbegun setup old_left left stop) name out new_out made new_made files ⊎ WroteFiles (IsStopped setup script left stop) name out new_out made new_made files
+IsHalted setup name script old_left left out new_out made new_made files (Unbegun stop) = WroteFiles (IsUnbegun setup old_left left) name out new_out made new_made files
+IsHalted setup name script old_left left out new_out made new_made files (Stopped stop) = WroteFiles (IsStopped setup script left stop) name out new_out made new_made files
 IsHalted setup name script old_left left out new_out made new_made files JournalUnfinished =
     (length script ≤ 16777216) × IsAtEnd left × WroteFiles (IsSessionOf setup script) name out new_out made new_made files
 
@@ -112,7 +100,6 @@ IsWorkBegun setup items journal = IsPrefix journal (head_line setup.shards setup
     ⊎ ((replies : List Reply) × IsBrokenInJournal setup [] (Batch items ∷ []) (replies_text items replies) journal [])
 
 -- what stands where a session of one batch halts
-abbrev pub IsWorkHalted : Setup → List Item → List ℕ → (List Made → Type 0) → (List Made → Type 0) → Halt → Type 0
-IsWorkHalted setup items name made new_made JournalUnmade = SameMade made new_made
-IsWorkHalted setup items name made new_made (Stopped stop) = WroteJournal (IsWorkBegun setup items) name made new_made
-IsWorkHalted setup items name made new_made JournalUnfinished = ⊥
+abbrev pub IsWorkHalted : Setup → List Item → List ℕ → (List Made → Type 0) → (List Made → Type 0) → JournalHalt → Type 0
+IsWorkHalted setup items name made new_made journals.Unmade = SameMade made new_made
+IsWorkHalted setup items name made new_made (journals.Stopped stop) = WroteJournal (IsWorkBegun setup items) name made new_made

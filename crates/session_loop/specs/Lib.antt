@@ -1,3 +1,4 @@
+pub mod Stops
 pub mod Outside
 pub mod Serving
 pub mod Halting

@@ -4,10 +4,16 @@ use Rattle.std.specs.Prelude.{◌≡◌, ◌≤◌, ℕ, ◌+◌, List, [], ◌�
 use Rattle.owned_text.specs.Made.{Made}
 use Rattle.backsim_io.specs.FilesInMemory.{list_without}
 use Rattle.backsim_io.specs.State.{FilesState, SourceState, FileFault, WriteFault, Rises}
-use Rattle.session_loop.specs.declared.stop.Stop.{Stop}
-use Rattle.session_loop.specs.declared.stop.Stop.TheVariants.{ScriptUnread, ScriptTooLong, RepliesUnwritten, JournalUnwritten, DumpUnmade, DumpUnwritten, DumpUnfinished, OutOfMemory}
+use Rattle.session_loop.specs.declared.stop.JournalStop.{JournalStop}
+use Rattle.session_loop.specs.declared.stop.JournalStop.TheVariants as journal
+use Rattle.session_loop.specs.declared.stop.UnitStop.{UnitStop}
+use Rattle.session_loop.specs.declared.stop.UnitStop.TheVariants.{RepliesUnwritten, JournalUnwritten, DumpUnmade, DumpUnwritten, DumpUnfinished, OutOfMemory}
+use Rattle.session_loop.specs.declared.stop.ScriptStop.{ScriptStop}
+use Rattle.session_loop.specs.declared.stop.ScriptStop.TheVariants.{Unread, TooLong, Unit}
+use Rattle.session_loop.specs.declared.halt.JournalHalt.{JournalHalt}
+use Rattle.session_loop.specs.declared.halt.JournalHalt.TheVariants as journals
 use Rattle.session_loop.specs.declared.halt.Halt.{Halt}
-use Rattle.session_loop.specs.declared.halt.Halt.TheVariants.{JournalUnmade, Stopped, JournalUnfinished}
+use Rattle.session_loop.specs.declared.halt.Halt.TheVariants.{JournalUnmade, Unbegun, Stopped, JournalUnfinished}
 
 -- what a session writes to: files, and a sink of replies, of which the faults are counted
 pub record Outputs : Type 0 where
@@ -74,29 +80,21 @@ pub record DumpedThenFault (old new : FilesState) : Type 0 where
 -- Stops.
 
 -- a stop in the writing of the journal
-abbrev pub JournalStops : FilesState → FilesState → Stop → Type 0
-JournalStops old new JournalUnwritten = WriteFault old new
-JournalStops old new OutOfMemory = new ≡ old
-JournalStops old new ScriptUnread = ⊥
-JournalStops old new ScriptTooLong = ⊥
-JournalStops old new RepliesUnwritten = ⊥
-JournalStops old new DumpUnmade = ⊥
-JournalStops old new DumpUnwritten = ⊥
-JournalStops old new DumpUnfinished = ⊥
+abbrev pub JournalStops : FilesState → FilesState → JournalStop → Type 0
+JournalStops old new journal.Unwritten = WriteFault old new
+JournalStops old new journal.OutOfMemory = new ≡ old
 
 -- a stop within a unit, once the dumps before it were finished
-abbrev pub StopsAt : Outputs → Outputs → Stop → Type 0
+abbrev pub StopsAt : Outputs → Outputs → UnitStop → Type 0
 StopsAt old new RepliesUnwritten = RepliesFault old new
 StopsAt old new JournalUnwritten = OfFiles WriteFault old new
 StopsAt old new DumpUnmade = OfFiles FileFault old new
 StopsAt old new DumpUnwritten = OfFiles LeavesUnwritten old new
 StopsAt old new DumpUnfinished = OfFiles LeavesUnfinished old new
 StopsAt old new OutOfMemory = new ≡ old
-StopsAt old new ScriptUnread = ⊥
-StopsAt old new ScriptTooLong = ⊥
 
 -- a stop within units: dumps were finished, if any, and then it stopped
-pub record UnitsStop (old new : Outputs) (stop : Stop) : Type 0 where
+pub record UnitsStop (old new : Outputs) (stop : UnitStop) : Type 0 where
   pub files : FilesState
   pub dumped : Dumped old.files files
   pub stops : StopsAt (record old { files = files }) new stop
@@ -111,7 +109,7 @@ abbrev pub Served : Outside → Outside → Type 0
 Served = ServedIn Dumped
 
 -- the script was read without a fault, and a unit of it stopped
-pub record ServedThenStop (old new : Outside) (stop : Stop) : Type 0 where
+pub record ServedThenStop (old new : Outside) (stop : UnitStop) : Type 0 where
   pub read : new.script.faults ≡ old.script.faults
   pub outputs : UnitsStop old.outputs new.outputs stop
 
@@ -121,15 +119,10 @@ pub record ServedThenUnread (old new : Outside) : Type 0 where
   pub outputs : OfFiles Dumped old.outputs new.outputs
 
 -- a stop of a script
-abbrev pub ScriptStops : Outside → Outside → Stop → Type 0
-ScriptStops old new ScriptUnread = ServedThenUnread old new
-ScriptStops old new ScriptTooLong = Served old new
-ScriptStops old new RepliesUnwritten = ServedThenStop old new RepliesUnwritten
-ScriptStops old new JournalUnwritten = ServedThenStop old new JournalUnwritten
-ScriptStops old new DumpUnmade = ServedThenStop old new DumpUnmade
-ScriptStops old new DumpUnwritten = ServedThenStop old new DumpUnwritten
-ScriptStops old new DumpUnfinished = ServedThenStop old new DumpUnfinished
-ScriptStops old new OutOfMemory = ServedThenStop old new OutOfMemory
+abbrev pub ScriptStops : Outside → Outside → ScriptStop → Type 0
+ScriptStops old new Unread = ServedThenUnread old new
+ScriptStops old new TooLong = Served old new
+ScriptStops old new (Unit stop) = ServedThenStop old new stop
 
 -- What a session changes, by its outcome.
 
@@ -144,6 +137,7 @@ pub record UnreadIn (way : FilesState → FilesState → Type 0) (old new : Outs
 
 abbrev pub SessionHalts : Outside → Outside → Halt → Type 0
 SessionHalts old new JournalUnmade = UnreadIn FileFault old new
+SessionHalts old new (Unbegun stop) = UnreadIn (λ files later. JournalStops (with_file files) later stop) old new
 SessionHalts old new (Stopped stop) = ScriptStops (with_journal old) new stop
 SessionHalts old new JournalUnfinished = ServedIn DumpedThenFault (with_journal old) new
 
@@ -151,19 +145,16 @@ abbrev pub SessionChanges : {A : Type 0} → Outside → Outside → Result A Ha
 SessionChanges old new (Ok done) = Served old new
 SessionChanges old new (Err halt) = SessionHalts old new halt
 
--- What a session of one batch changes of files, by its outcome. Its journal is left to be finished.
-abbrev pub WorkHalts : FilesState → FilesState → Halt → Type 0
-WorkHalts old new JournalUnmade = FileFault old new
-WorkHalts old new (Stopped stop) = JournalStops (with_file old) new stop
-WorkHalts old new JournalUnfinished = ⊥
+-- What a session of one batch changes of files, by its outcome, and the beginning of a journal. The journal is left to be finished.
+abbrev pub JournalHalts : FilesState → FilesState → JournalHalt → Type 0
+JournalHalts old new journals.Unmade = FileFault old new
+JournalHalts old new (journals.Stopped stop) = JournalStops (with_file old) new stop
 
-abbrev pub WorkChanges : {A : Type 0} → FilesState → FilesState → Result A Halt → Type 0
-WorkChanges old new (Ok done) = new ≡ with_file old
-WorkChanges old new (Err halt) = WorkHalts old new halt
+abbrev pub JournalChanges : {A : Type 0} → FilesState → FilesState → Result A JournalHalt → Type 0
+JournalChanges old new (Ok done) = new ≡ with_file old
+JournalChanges old new (Err halt) = JournalHalts old new halt
 
 -- what the end of a journal changes of files, by its outcome
-abbrev pub FinishChanges : {A : Type 0} → FilesState → FilesState → Result A Halt → Type 0
+abbrev pub FinishChanges : {A E : Type 0} → FilesState → FilesState → Result A E → Type 0
 FinishChanges old new (Ok done) = new ≡ record old { unfinished = list_without old.unfinished 0 }
-FinishChanges old new (Err JournalUnmade) = ⊥
-FinishChanges old new (Err (Stopped stop)) = ⊥
-FinishChanges old new (Err JournalUnfinished) = FileFault old new
+FinishChanges old new (Err unfinished) = FileFault old new

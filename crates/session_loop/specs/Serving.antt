@@ -7,17 +7,19 @@ use Rattle.query_lines.specs.Reading.{script_units, completed_units}
 use Rattle.session_meaning.specs.Session.{Setup}
 use Rattle.session_meaning.specs.Broken.{IsServedUpTo, IsCutOff, IsBroken, IsBrokenInJournal, IsBrokenInDump}
 use Rattle.unit_answers.specs.Stores.{setup_of}
-use Rattle.session_loop.specs.declared.setting.Setting.{Setting}
-use Rattle.session_loop.specs.declared.stop.Stop.{Stop}
-use Rattle.session_loop.specs.declared.stop.Stop.TheVariants.{ScriptUnread, ScriptTooLong, RepliesUnwritten, JournalUnwritten, DumpUnmade, DumpUnwritten, DumpUnfinished, OutOfMemory}
+use Rattle.session_loop.specs.declared.service.Service.{Service}
+use Rattle.session_loop.specs.declared.stop.UnitStop.{UnitStop}
+use Rattle.session_loop.specs.declared.stop.UnitStop.TheVariants.{RepliesUnwritten, JournalUnwritten, DumpUnmade, DumpUnwritten, DumpUnfinished, OutOfMemory}
+use Rattle.session_loop.specs.declared.stop.ScriptStop.{ScriptStop}
+use Rattle.session_loop.specs.declared.stop.ScriptStop.TheVariants.{Unread, TooLong, Unit}
 
 -- what units are served with, whatever the names of files
-abbrev pub memo_of : Setting → Setup
-memo_of setting = setup_of setting.design.now setting.sizes
+abbrev pub memo_of : Service → Setup
+memo_of service = setup_of service.design.now service.sizes
 
 -- and with files of these names
-abbrev pub session_of : Setting → List (List ℕ) → Setup
-session_of setting names = record (memo_of setting) { names = names }
+abbrev pub session_of : Service → List (List ℕ) → Setup
+session_of service names = record (memo_of service) { names = names }
 
 -- The script.
 
@@ -56,13 +58,17 @@ IsJournalBroken setup script left replies journal dumps = BreaksIn setup script 
 abbrev pub IsDumpBroken : Setup → List ℕ → Option (List ℕ) → List ℕ → List ℕ → List Made → Type 0
 IsDumpBroken setup script left replies journal dumps = BreaksIn setup script left (λ done later. IsBrokenInDump setup done later replies journal dumps)
 
+-- where a stop of a unit breaks off: in a dump before its reply, in the sections of a unit, or in any unit
+abbrev pub BreaksAt : Setup → List ℕ → List ℕ → List Made → UnitStop → List ScriptUnit → List ScriptUnit → Type 0
+BreaksAt setup replies journal dumps RepliesUnwritten done later = IsBroken setup done later replies journal dumps
+BreaksAt setup replies journal dumps JournalUnwritten done later = IsBrokenInJournal setup done later replies journal dumps
+BreaksAt setup replies journal dumps DumpUnmade done later = IsBrokenInDump setup done later replies journal dumps
+BreaksAt setup replies journal dumps DumpUnwritten done later = IsBrokenInDump setup done later replies journal dumps
+BreaksAt setup replies journal dumps DumpUnfinished done later = IsBrokenInDump setup done later replies journal dumps
+BreaksAt setup replies journal dumps OutOfMemory done later = IsBroken setup done later replies journal dumps
+
 -- what was written of the session of a script that stopped
-abbrev pub IsStopped : Setup → List ℕ → Option (List ℕ) → Stop → List ℕ → List ℕ → List Made → Type 0
-IsStopped setup script left ScriptUnread replies journal dumps = IsServedUntil setup script left replies journal dumps
-IsStopped setup script left ScriptTooLong replies journal dumps = IsCutOff setup script replies journal dumps
-IsStopped setup script left RepliesUnwritten replies journal dumps = IsBrokenIn setup script left replies journal dumps
-IsStopped setup script left JournalUnwritten replies journal dumps = IsJournalBroken setup script left replies journal dumps
-IsStopped setup script left DumpUnmade replies journal dumps = IsDumpBroken setup script left replies journal dumps
-IsStopped setup script left DumpUnwritten replies journal dumps = IsDumpBroken setup script left replies journal dumps
-IsStopped setup script left DumpUnfinished replies journal dumps = IsDumpBroken setup script left replies journal dumps
-IsStopped setup script left OutOfMemory replies journal dumps = IsBrokenIn setup script left replies journal dumps
+abbrev pub IsStopped : Setup → List ℕ → Option (List ℕ) → ScriptStop → List ℕ → List ℕ → List Made → Type 0
+IsStopped setup script left Unread replies journal dumps = IsServedUntil setup script left replies journal dumps
+IsStopped setup script left TooLong replies journal dumps = IsCutOff setup script replies journal dumps
+IsStopped setup script left (Unit stop) replies journal dumps = BreaksIn setup script left (BreaksAt setup replies journal dumps stop)

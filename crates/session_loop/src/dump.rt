@@ -17,8 +17,8 @@ ghost use Rattle.session_loop.specs.inner.Outside.{DumpChanges};
 
 use crate::desk::{Desk, Dumps};
 use crate::section::write_reply;
-use crate::setting::Setting;
-use crate::stop::Stop;
+use crate::service::Service;
+use crate::stop::{DumpStop, RepliesStop, UnitStop};
 use backsim_io::{Files, Sink, write_file};
 use owned_text::{OutOfMemory, Text};
 use reply_lines::{VcdReply, dump_text};
@@ -54,7 +54,7 @@ fn refusal_of(dumps: &Dumps, file: &Text) -> Option<VcdReply>
 }
 
 /// Creates the file of a dump, also in the place of another one, writes its text, and finishes it.
-fn write_dump<F: Files>(name: &str, text: &[u8], files: &mut F) -> Result<(), Stop>
+fn write_dump<F: Files>(name: &str, text: &[u8], files: &mut F) -> Result<(), DumpStop>
     requires room { (F.state files.old).created < 4 }
     requires journal { 0 < (F.state files.old).created }
     ensures written { OnOk result (Adds (F.made files.old) (F.made files.new)
@@ -65,13 +65,13 @@ fn write_dump<F: Files>(name: &str, text: &[u8], files: &mut F) -> Result<(), St
     ensures state { DumpChanges (F.state files.old) (F.state files.new) result }
 {
     let Ok(slot) = files.create(name, HEAD) else {
-        return Err(Stop::DumpUnmade);
+        return Err(DumpStop::Unmade);
     };
     if write_file(files, slot, text).is_err() {
-        return Err(Stop::DumpUnwritten);
+        return Err(DumpStop::Unwritten);
     }
     if files.finish(slot).is_err() {
-        return Err(Stop::DumpUnfinished);
+        return Err(DumpStop::Unfinished);
     }
     Ok(())
 }
@@ -82,7 +82,7 @@ fn refuse_dump<S: Sink>(
     file: &Text,
     reply: VcdReply,
     out: &mut S,
-) -> Result<(), Stop>
+) -> Result<(), RepliesStop>
     ensures { Replies (vcd_line file.now reply) result
         (S.faults out.old) (S.written out.old) (S.faults out.new) (S.written out.new) }
 {
@@ -100,21 +100,21 @@ fn push_copy(alloc: Global, name: &Text, names: &mut Vec<Text>) -> Result<(), Ou
 
 /// Makes a dump of the last batch's waves under a name that is free: its file, which is finished, and then its reply.
 fn make_dump<F: Files, S: Sink>(
-    setting: &Setting<'_>,
+    service: &Service<'_>,
     file: Text,
     desk: Desk,
     files: &mut F,
     out: &mut S,
-) -> Result<Desk, Stop>
+) -> Result<Desk, UnitStop>
     requires named { IsTrue (texts.is_name file) }
     requires free { refused_reply desk.dumps file ≡ None }
-    requires ready { IsReady (memo_of setting.now) desk (F.state files.old) }
-    ensures { ServesUnits setting.now desk (kinds.Vcd file ∷ []) result
+    requires ready { IsReady (memo_of service.now) desk (F.state files.old) }
+    ensures { ServesUnits service.now desk (kinds.Vcd file ∷ []) result
         (seen (F.state files.old) (F.made files.old) (S.faults out.old) (S.written out.old))
         (seen (F.state files.new) (F.made files.new) (S.faults out.new) (S.written out.new)) }
 {
-    let alloc = setting.alloc;
-    let design = setting.design;
+    let alloc = service.alloc;
+    let design = service.design;
     let mut desk = desk;
     let Some(last) = &desk.dumps.last else {
         unreachable!()
@@ -133,24 +133,24 @@ fn make_dump<F: Files, S: Sink>(
 /// Serves a line that asks for a dump of the last batch's waves: the file, which is written and finished, and then its reply; or the
 /// reply that says why there is none.
 pub fn serve_vcd<F: Files, S: Sink>(
-    setting: &Setting<'_>,
+    service: &Service<'_>,
     file: Text,
     desk: Desk,
     files: &mut F,
     out: &mut S,
-) -> Result<Desk, Stop>
+) -> Result<Desk, UnitStop>
     requires named { IsTrue (texts.is_name file) }
-    requires ready { IsReady (memo_of setting.now) desk (F.state files.old) }
-    ensures { ServesUnits setting.now desk (kinds.Vcd file ∷ []) result
+    requires ready { IsReady (memo_of service.now) desk (F.state files.old) }
+    ensures { ServesUnits service.now desk (kinds.Vcd file ∷ []) result
         (seen (F.state files.old) (F.made files.old) (S.faults out.old) (S.written out.old))
         (seen (F.state files.new) (F.made files.new) (S.faults out.new) (S.written out.new)) }
 {
-    let alloc = setting.alloc;
+    let alloc = service.alloc;
     match refusal_of(&desk.dumps, &file) {
         Some(reply) => {
             refuse_dump(alloc, &file, reply, out)?;
             Ok(desk)
         }
-        None => make_dump(setting, file, desk, files, out),
+        None => make_dump(service, file, desk, files, out),
     }
 }

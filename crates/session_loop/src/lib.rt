@@ -31,8 +31,8 @@
 //! written; that of a dump to its changes, with the sorting of them by time. Where a session ends well its stores are handed back.
 //!
 //! ```text
-//! let setting = Setting { alloc, design: &design, sizes: Sizes { shards: 4, cells: 16_384 } };
-//! serve_session(&crew, &setting, &["netlist"], "journal", &mut files, &mut queries, &mut out)?;
+//! let service = Service { alloc, design: &design, sizes: Sizes { shards: 4, cells: 16_384 } };
+//! serve_session(&crew, &service, &["netlist"], "journal", &mut files, &mut queries, &mut out)?;
 //! ```
 #![tactic(auto)]
 
@@ -44,16 +44,16 @@ mod journal;
 mod question;
 mod script;
 mod section;
+mod service;
 mod session;
-mod setting;
 mod stop;
 mod stores;
 mod unit;
 mod work;
 
-pub use halt::Halt;
+pub use halt::{Halt, JournalHalt, Unfinished};
 pub use journal::finish_journal;
+pub use service::Service;
 pub use session::serve_session;
-pub use setting::Setting;
-pub use stop::Stop;
+pub use stop::{JournalStop, ScriptStop, UnitStop};
 pub use work::serve_work;

@@ -2,6 +2,7 @@
 
 ghost use Rattle.std.specs.Prelude.{◌≡◌, ◌+◌, ◌≤◌, ◌∷◌, [], length, Contains, IfOk, IfSome};
 ghost use Rattle.query_lines.specs.declared.unit.Unit.TheVariants as kinds;
+ghost use Rattle.query_lines.specs.Laws.{SuitsWindow};
 ghost use Rattle.unit_answers.specs.Done.{IsQuestionDone};
 ghost use Rattle.unit_answers.specs.Stores.{AreStores};
 ghost use Rattle.session_loop.specs.Outside.{seen};
@@ -13,8 +14,8 @@ ghost use Rattle.session_loop.specs.inner.Serving.{ServesUnits, held_text};
 use crate::counting::count_section;
 use crate::desk::{Counts, Desk};
 use crate::section::{write_reply, write_section};
-use crate::setting::Setting;
-use crate::stop::Stop;
+use crate::service::Service;
+use crate::stop::{JournalStop, UnitStop};
 use backsim_io::{Files, Sink};
 use cell_store::CellStore;
 use journal_text::{EntryList, SectionKind};
@@ -28,21 +29,21 @@ use worker_gate::Crew;
 
 /// Asks a question over the stores, with what is kept of the last stuck signal.
 fn ask(
-    setting: &Setting<'_>,
+    service: &Service<'_>,
     question: &Question,
     stores: Vec<CellStore>,
     last_site: Option<LastSite>,
 ) -> Result<(QuestionDone, Option<LastSite>), OutOfMemory>
-    requires stores { AreStores (memo_of setting.now) stores.items }
-    requires site { IfSome last_site (λ last. last ≡ setting.now.design.now) }
-    ensures done { IfOk result (λ asked. IsQuestionDone (memo_of setting.now)
-        question.now.line question.now.asks stores.items
-        asked.0.reply asked.0.lists.items asked.0.own_lists.items asked.0.stores.items) }
+    requires suits { SuitsWindow question.now.asks question.now.window }
+    requires stores { AreStores (memo_of service.now) stores.items }
+    requires site { IfSome last_site (λ last. last ≡ service.now.design.now) }
+    ensures done { IfOk result (λ asked. IsQuestionDone (memo_of service.now) question.now
+        stores.items asked.0.reply asked.0.lists.items asked.0.own_lists.items asked.0.stores.items) }
     ensures site { IfOk result (λ asked.
-        IfSome asked.1 (λ last. last ≡ setting.now.design.now)) }
+        IfSome asked.1 (λ last. last ≡ service.now.design.now)) }
 {
-    let mut design = AskedDesign::new(setting.design, last_site);
-    let done = answer_question(setting.alloc, &mut design, question, setting.sizes, stores)?;
+    let mut design = AskedDesign::new(service.design, last_site);
+    let done = answer_question(service.alloc, &mut design, question, service.sizes, stores)?;
     Ok((done, design.into_last()))
 }
 
@@ -53,7 +54,7 @@ fn write_held<C: Crew, F: Files>(
     lists: &[EntryList],
     counts: Counts,
     files: &mut F,
-) -> Result<Counts, Stop>
+) -> Result<Counts, JournalStop>
     requires few { length lists.now ≤ 4294967295 }
     requires unfinished { Contains (F.state files.old).unfinished 0 }
     ensures counted { IfOk result (IsHeldCounted counts lists.now) }
@@ -64,7 +65,7 @@ fn write_held<C: Crew, F: Files>(
         return Ok(counts);
     }
     let Some(later) = count_section(counts, SectionKind::Held, lists) else {
-        return Err(Stop::OutOfMemory);
+        return Err(JournalStop::OutOfMemory);
     };
     write_section(crew, alloc, SectionKind::Held, later.sections, lists, files)?;
     Ok(later)
@@ -73,28 +74,29 @@ fn write_held<C: Crew, F: Files>(
 /// Serves a question: its reply, then its section, which is a batch's, and that of a memo of its own, if it has one.
 pub fn serve_question<C: Crew, F: Files, S: Sink>(
     crew: &C,
-    setting: &Setting<'_>,
+    service: &Service<'_>,
     question: &Question,
     desk: Desk,
     files: &mut F,
     out: &mut S,
-) -> Result<Desk, Stop>
-    requires ready { IsReady (memo_of setting.now) desk (F.state files.old) }
-    ensures { ServesUnits setting.now desk (kinds.Question question.now ∷ []) result
+) -> Result<Desk, UnitStop>
+    requires suits { SuitsWindow question.now.asks question.now.window }
+    requires ready { IsReady (memo_of service.now) desk (F.state files.old) }
+    ensures { ServesUnits service.now desk (kinds.Question question.now ∷ []) result
         (seen (F.state files.old) (F.made files.old) (S.faults out.old) (S.written out.old))
         (seen (F.state files.new) (F.made files.new) (S.faults out.new) (S.written out.new)) }
 {
-    let alloc = setting.alloc;
+    let alloc = service.alloc;
     let Desk {
         stores,
         counts,
         dumps,
         last_site,
     } = desk;
-    let (done, last_site) = ask(setting, question, stores, last_site)?;
-    let text = question_text(alloc, &question.asks, &done.reply)?;
+    let (done, last_site) = ask(service, question, stores, last_site)?;
+    let text = question_text(alloc, question, &done.reply)?;
     let Some(counts) = count_section(counts, SectionKind::Batch, &done.lists) else {
-        return Err(Stop::OutOfMemory);
+        return Err(UnitStop::OutOfMemory);
     };
     write_reply(&text, out)?;
     write_section(

@@ -10,8 +10,8 @@ ghost use Rattle.session_loop.specs.inner.Scripts.{CanTake, IsFresh, ServesBytes
 ghost use Rattle.session_loop.specs.inner.Outside.{ScriptChanges};
 
 use crate::desk::{Counts, Desk, Dumps};
-use crate::setting::Setting;
-use crate::stop::Stop;
+use crate::service::Service;
+use crate::stop::{ScriptStop, UnitStop};
 use crate::unit::serve_units;
 use backsim_io::{Files, Sink, Source};
 use cell_store::CellStore;
@@ -37,15 +37,15 @@ impl Script {
     fn serve_bytes<C: Crew, F: Files, S: Sink>(
         &mut self,
         crew: &C,
-        setting: &Setting<'_>,
+        service: &Service<'_>,
         bytes: &[u8],
         desk: Desk,
         files: &mut F,
         out: &mut S,
-    ) -> Result<Desk, Stop>
-        requires script { CanTake setting.now self.old (length bytes.now) }
-        requires ready { IsReady (memo_of setting.now) desk (F.state files.old) }
-        ensures { ServesBytes setting.now self.old self.new bytes.now desk result
+    ) -> Result<Desk, UnitStop>
+        requires script { CanTake service.now self.old (length bytes.now) }
+        requires ready { IsReady (memo_of service.now) desk (F.state files.old) }
+        ensures { ServesBytes service.now self.old self.new bytes.now desk result
             (seen (F.state files.old) (F.made files.old) (S.faults out.old) (S.written out.old))
             (seen (F.state files.new) (F.made files.new) (S.faults out.new) (S.written out.new)) }
     {
@@ -53,7 +53,7 @@ impl Script {
         for byte in bytes {
             let units = self.reader.take(*byte)?;
             self.taken += 1;
-            desk = serve_units(crew, setting, units, desk, files, out)?;
+            desk = serve_units(crew, service, units, desk, files, out)?;
         }
         Ok(desk)
     }
@@ -62,19 +62,19 @@ impl Script {
     fn serve_end<C: Crew, F: Files, S: Sink>(
         self,
         crew: &C,
-        setting: &Setting<'_>,
+        service: &Service<'_>,
         desk: Desk,
         files: &mut F,
         out: &mut S,
-    ) -> Result<Desk, Stop>
-        requires script { CanTake setting.now self 0 }
-        requires ready { IsReady (memo_of setting.now) desk (F.state files.old) }
-        ensures { ServesEnd setting.now self.reader desk result
+    ) -> Result<Desk, UnitStop>
+        requires script { CanTake service.now self 0 }
+        requires ready { IsReady (memo_of service.now) desk (F.state files.old) }
+        ensures { ServesEnd service.now self.reader desk result
             (seen (F.state files.old) (F.made files.old) (S.faults out.old) (S.written out.old))
             (seen (F.state files.new) (F.made files.new) (S.faults out.new) (S.written out.new)) }
     {
         let units = self.reader.end()?;
-        serve_units(crew, setting, units, desk, files, out)
+        serve_units(crew, service, units, desk, files, out)
     }
 }
 
@@ -82,18 +82,18 @@ impl Script {
 /// served.
 pub fn serve_script<C: Crew, F: Files, Q: Source, S: Sink>(
     crew: &C,
-    setting: &Setting<'_>,
+    service: &Service<'_>,
     stores: Vec<CellStore>,
     names: Vec<Text>,
     files: &mut F,
     queries: &mut Q,
     out: &mut S,
-) -> Result<Vec<CellStore>, Stop>
-    requires fresh { IsFresh setting.now stores.items (F.state files.old) }
+) -> Result<Vec<CellStore>, ScriptStop>
+    requires fresh { IsFresh service.now stores.items (F.state files.old) }
     ensures at_most { (script : List ℕ) → (Q.state queries.old).left ≡ Some script
         → ConsumesUpTo (Some script) (Q.state queries.new).left 16777217 }
-    ensures stores { IfOk result (λ stores. AreStores (memo_of setting.now) stores.items) }
-    ensures served { ServesScript (session_of setting.now names.items)
+    ensures stores { IfOk result (λ stores. AreStores (memo_of service.now) stores.items) }
+    ensures served { ServesScript (session_of service.now names.items)
         (Q.state queries.old).left (Q.state queries.new).left result
         (seen (F.state files.old) (F.made files.old) (S.faults out.old) (S.written out.old))
         (seen (F.state files.new) (F.made files.new) (S.faults out.new) (S.written out.new)) }
@@ -101,8 +101,8 @@ pub fn serve_script<C: Crew, F: Files, Q: Source, S: Sink>(
         (outside (F.state files.old) (S.faults out.old) (Q.state queries.old))
         (outside (F.state files.new) (S.faults out.new) (Q.state queries.new)) result }
 {
-    let alloc = setting.alloc;
-    let design = setting.design;
+    let alloc = service.alloc;
+    let design = service.design;
     let mut script = Script {
         reader: ScriptReader::new(alloc, design.horizon()),
         taken: 0,
@@ -127,15 +127,15 @@ pub fn serve_script<C: Crew, F: Files, Q: Source, S: Sink>(
         let left = (SCRIPT_LIMIT - script.taken) as usize;
         let room = BLOCK.min(left + 1);
         let Ok(n) = queries.read(&mut block[..room]) else {
-            return Err(Stop::ScriptUnread);
+            return Err(ScriptStop::Unread);
         };
         if n == 0 {
-            let last = script.serve_end(crew, setting, desk, files, out)?;
+            let last = script.serve_end(crew, service, desk, files, out)?;
             return Ok(last.stores);
         }
-        desk = script.serve_bytes(crew, setting, &block[..n.min(left)], desk, files, out)?;
+        desk = script.serve_bytes(crew, service, &block[..n.min(left)], desk, files, out)?;
         if n > left {
-            return Err(Stop::ScriptTooLong);
+            return Err(ScriptStop::TooLong);
         }
     }
 }

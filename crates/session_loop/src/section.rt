@@ -2,15 +2,14 @@
 //! block by block, each block as several texts, which are written one after another.
 
 ghost use Rattle.std.specs.Prelude.{◌≡◌, ◌++◌, ◌≤◌, [], length, flat_map, Contains, IfOk, OnOk};
-ghost use Rattle.std.specs.List.{AllZip};
 ghost use Rattle.journal_text.specs.Spelling.{entry_line, kind_word, line_feed, shard_lines, section_lines};
-ghost use Rattle.reply_lines.specs.Replies.{Suits, text_of};
+ghost use Rattle.reply_lines.specs.Replies.{text_of};
 ghost use Rattle.session_meaning.specs.Replies.{replies_text};
 ghost use Rattle.session_loop.specs.inner.Growing.{shard_line};
 ghost use Rattle.session_loop.specs.inner.Pieces.{Records, RecordsBehind, Replies, RepliesBehind};
 ghost use Rattle.text_fields.specs.Spelling.{field};
 
-use crate::stop::Stop;
+use crate::stop::{JournalStop, RepliesStop};
 use backsim_io::{Files, Sink, write_all, write_file};
 use journal_meaning::Entry;
 use journal_text::{EntryList, SectionKind, push_entry};
@@ -34,13 +33,13 @@ const ENTRIES_FOR_TWO: usize = 16_384;
 const BLOCK: usize = 262_144;
 
 /// Writes a reply, by one `write_all`.
-pub fn write_reply<S: Sink>(text: &[u8], out: &mut S) -> Result<(), Stop>
+pub fn write_reply<S: Sink>(text: &[u8], out: &mut S) -> Result<(), RepliesStop>
     ensures { Replies text.now result
         (S.faults out.old) (S.written out.old) (S.faults out.new) (S.written out.new) }
 {
     match write_all(out, text) {
         Ok(()) => Ok(()),
-        Err(_) => Err(Stop::RepliesUnwritten),
+        Err(_) => Err(RepliesStop::Unwritten),
     }
 }
 
@@ -51,8 +50,7 @@ fn push_reply<S: Sink>(
     reply: &Reply,
     text: &mut Vec<u8>,
     out: &mut S,
-) -> Result<(), Stop>
-    requires suits { Suits item.now.what reply.now }
+) -> Result<(), RepliesStop>
     ensures { RepliesBehind text.old.items (text_of item.now reply.now) text.new.items result
         (S.faults out.old) (S.written out.old) (S.faults out.new) (S.written out.new) }
 {
@@ -72,8 +70,8 @@ pub fn write_replies<S: Sink>(
     items: &[Item],
     replies: &[Reply],
     out: &mut S,
-) -> Result<(), Stop>
-    requires suits { AllZip (λ item reply. Suits item.what reply) items.now replies.now }
+) -> Result<(), RepliesStop>
+    requires count { length replies.now ≡ length items.now }
     ensures { Replies (replies_text items.now replies.now) result
         (S.faults out.old) (S.written out.old) (S.faults out.new) (S.written out.new) }
 {
@@ -85,19 +83,19 @@ pub fn write_replies<S: Sink>(
 }
 
 /// Writes a text after the bytes of the journal.
-pub fn write_piece<F: Files>(text: &[u8], files: &mut F) -> Result<(), Stop>
+pub fn write_piece<F: Files>(text: &[u8], files: &mut F) -> Result<(), JournalStop>
     requires unfinished { Contains (F.state files.old).unfinished 0 }
     ensures { Records text.now result
         (F.state files.old) (F.made files.old) (F.state files.new) (F.made files.new) }
 {
     match write_file(files, JOURNAL, text) {
         Ok(()) => Ok(()),
-        Err(_) => Err(Stop::JournalUnwritten),
+        Err(_) => Err(JournalStop::Unwritten),
     }
 }
 
 /// Writes the text to the journal once it is a piece long. Until then it is kept back.
-fn write_full<F: Files>(text: &mut Vec<u8>, files: &mut F) -> Result<(), Stop>
+fn write_full<F: Files>(text: &mut Vec<u8>, files: &mut F) -> Result<(), JournalStop>
     requires unfinished { Contains (F.state files.old).unfinished 0 }
     ensures { RecordsBehind text.old.items [] text.new.items result
         (F.state files.old) (F.made files.old) (F.state files.new) (F.made files.new) }
@@ -111,7 +109,11 @@ fn write_full<F: Files>(text: &mut Vec<u8>, files: &mut F) -> Result<(), Stop>
 }
 
 /// Writes the lines of entries after the text that is kept back.
-fn write_entries<F: Files>(entries: &[Entry], text: &mut Vec<u8>, files: &mut F) -> Result<(), Stop>
+fn write_entries<F: Files>(
+    entries: &[Entry],
+    text: &mut Vec<u8>,
+    files: &mut F,
+) -> Result<(), JournalStop>
     requires unfinished { Contains (F.state files.old).unfinished 0 }
     ensures { RecordsBehind text.old.items (flat_map entry_line entries.now) text.new.items result
         (F.state files.old) (F.made files.old) (F.state files.new) (F.made files.new) }
@@ -124,7 +126,7 @@ fn write_entries<F: Files>(entries: &[Entry], text: &mut Vec<u8>, files: &mut F)
 }
 
 /// Writes texts, one after another.
-fn write_texts<F: Files>(texts: &[Vec<u8>], files: &mut F) -> Result<(), Stop>
+fn write_texts<F: Files>(texts: &[Vec<u8>], files: &mut F) -> Result<(), JournalStop>
     requires unfinished { Contains (F.state files.old).unfinished 0 }
     ensures { Records (flat_map (λ text. text.items) texts.now) result
         (F.state files.old) (F.made files.old) (F.state files.new) (F.made files.new) }
@@ -141,7 +143,7 @@ fn write_block<C: Crew, F: Files>(
     alloc: Global,
     entries: &[Entry],
     files: &mut F,
-) -> Result<(), Stop>
+) -> Result<(), JournalStop>
     requires unfinished { Contains (F.state files.old).unfinished 0 }
     ensures { Records (flat_map entry_line entries.now) result
         (F.state files.old) (F.made files.old) (F.state files.new) (F.made files.new) }
@@ -156,7 +158,7 @@ fn write_blocks<C: Crew, F: Files>(
     alloc: Global,
     entries: &[Entry],
     files: &mut F,
-) -> Result<(), Stop>
+) -> Result<(), JournalStop>
     requires unfinished { Contains (F.state files.old).unfinished 0 }
     ensures { Records (flat_map entry_line entries.now) result
         (F.state files.old) (F.made files.old) (F.state files.new) (F.made files.new) }
@@ -174,7 +176,7 @@ fn write_lines<C: Crew, F: Files>(
     entries: &[Entry],
     text: &mut Vec<u8>,
     files: &mut F,
-) -> Result<(), Stop>
+) -> Result<(), JournalStop>
     requires unfinished { Contains (F.state files.old).unfinished 0 }
     ensures { RecordsBehind text.old.items (flat_map entry_line entries.now) text.new.items result
         (F.state files.old) (F.made files.old) (F.state files.new) (F.made files.new) }
@@ -205,7 +207,7 @@ fn write_shard<C: Crew, F: Files>(
     entries: &[Entry],
     text: &mut Vec<u8>,
     files: &mut F,
-) -> Result<(), Stop>
+) -> Result<(), JournalStop>
     requires unfinished { Contains (F.state files.old).unfinished 0 }
     ensures { RecordsBehind text.old.items (shard_line number ++ flat_map entry_line entries.now)
         text.new.items result
@@ -222,7 +224,7 @@ fn write_shards<C: Crew, F: Files>(
     lists: &[EntryList],
     text: &mut Vec<u8>,
     files: &mut F,
-) -> Result<(), Stop>
+) -> Result<(), JournalStop>
     requires few { length lists.now ≤ 4294967295 }
     requires unfinished { Contains (F.state files.old).unfinished 0 }
     ensures { RecordsBehind text.old.items (shard_lines 0 lists.now) text.new.items result
@@ -264,7 +266,7 @@ pub fn write_section<C: Crew, F: Files>(
     number: u32,
     lists: &[EntryList],
     files: &mut F,
-) -> Result<(), Stop>
+) -> Result<(), JournalStop>
     requires few { length lists.now ≤ 4294967295 }
     requires unfinished { Contains (F.state files.old).unfinished 0 }
     ensures { Records

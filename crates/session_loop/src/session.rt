@@ -10,7 +10,7 @@ ghost use Rattle.session_loop.specs.Outside.{outside, seen, SessionChanges};
 use crate::halt::Halt;
 use crate::journal::{begin_journal, finish_journal};
 use crate::script::serve_script;
-use crate::setting::Setting;
+use crate::service::Service;
 use crate::stores::empty_stores;
 use backsim_io::{Files, Sink, Source};
 use cell_store::CellStore;
@@ -39,34 +39,34 @@ fn own_names(alloc: Global, inputs: &[&str], journal: &str) -> Result<Vec<Text>,
 /// ends next may leave them to the end of its process.
 pub fn serve_session<C: Crew, F: Files, Q: Source, S: Sink>(
     crew: &C,
-    setting: &Setting<'_>,
+    service: &Service<'_>,
     inputs: &[&str],
     journal: &str,
     files: &mut F,
     queries: &mut Q,
     out: &mut S,
 ) -> Result<Vec<CellStore>, Halt>
-    requires shards { (0 < setting.now.sizes.shards) × (setting.now.sizes.shards ≤ 64) }
-    requires cells { (0 < setting.now.sizes.cells) × (setting.now.sizes.cells ≤ 65536) }
+    requires shards { (0 < service.now.sizes.shards) × (service.now.sizes.shards ≤ 64) }
+    requires cells { (0 < service.now.sizes.cells) × (service.now.sizes.cells ≤ 65536) }
     requires files { (F.state files.old).created ≡ 0 }
     ensures served { let names = map (λ name. name.now) inputs.now ++ journal.now ∷ [] in
-        ServesSession (session_of setting.now names) journal.now
+        ServesSession (session_of service.now names) journal.now
         (Q.state queries.old).left (Q.state queries.new).left result
         (seen (F.state files.old) (F.made files.old) (S.faults out.old) (S.written out.old))
         (seen (F.state files.new) (F.made files.new) (S.faults out.new) (S.written out.new)) }
-    ensures stores { IfOk result (λ stores. AreStores (memo_of setting.now) stores.items) }
+    ensures stores { IfOk result (λ stores. AreStores (memo_of service.now) stores.items) }
     ensures at_most { (script : List ℕ) → (Q.state queries.old).left ≡ Some script
         → ConsumesUpTo (Some script) (Q.state queries.new).left 16777217 }
     ensures state { SessionChanges
         (outside (F.state files.old) (S.faults out.old) (Q.state queries.old))
         (outside (F.state files.new) (S.faults out.new) (Q.state queries.new)) result }
 {
-    let alloc = setting.alloc;
-    let sizes = setting.sizes;
+    let alloc = service.alloc;
+    let sizes = service.sizes;
     begin_journal(alloc, sizes, journal, files)?;
     let stores = empty_stores(alloc, sizes)?;
     let names = own_names(alloc, inputs, journal)?;
-    let left = serve_script(crew, setting, stores, names, files, queries, out)?;
+    let left = serve_script(crew, service, stores, names, files, queries, out)?;
     finish_journal(files)?;
     Ok(left)
 }

@@ -14,8 +14,8 @@ use crate::desk::{Desk, LastBatch};
 use crate::dump::serve_vcd;
 use crate::question::serve_question;
 use crate::section::{write_replies, write_reply, write_section};
-use crate::setting::Setting;
-use crate::stop::Stop;
+use crate::service::Service;
+use crate::stop::UnitStop;
 use backsim_io::{Files, Sink};
 use journal_text::SectionKind;
 use query_lines::{ItemList, Unit, UnitList};
@@ -26,23 +26,23 @@ use worker_gate::Crew;
 /// Serves a batch: its replies in the order of the items, then its section.
 pub fn serve_batch<C: Crew, F: Files, S: Sink>(
     crew: &C,
-    setting: &Setting<'_>,
+    service: &Service<'_>,
     items: ItemList,
     desk: Desk,
     files: &mut F,
     out: &mut S,
-) -> Result<Desk, Stop>
-    requires within { IsWithin setting.now.design.now.circuit.horizon items }
+) -> Result<Desk, UnitStop>
+    requires within { IsWithin service.now.design.now.circuit.horizon items }
     requires lines { HaveOwnLines items }
     requires named { All (λ item. AsksByName item.what) items }
-    requires ready { IsReady (memo_of setting.now) desk (F.state files.old) }
-    ensures { ServesUnits setting.now desk (kinds.Batch items ∷ []) result
+    requires ready { IsReady (memo_of service.now) desk (F.state files.old) }
+    ensures { ServesUnits service.now desk (kinds.Batch items ∷ []) result
         (seen (F.state files.old) (F.made files.old) (S.faults out.old) (S.written out.old))
         (seen (F.state files.new) (F.made files.new) (S.faults out.new) (S.written out.new)) }
 {
-    let alloc = setting.alloc;
-    let design = setting.design;
-    let sizes = setting.sizes;
+    let alloc = service.alloc;
+    let design = service.design;
+    let sizes = service.sizes;
     let Desk {
         stores,
         counts,
@@ -53,7 +53,7 @@ pub fn serve_batch<C: Crew, F: Files, S: Sink>(
     dumps.last = None;
     let done = answer_batch(crew, alloc, design, items.as_slice(), sizes, stores)?;
     let Some(counts) = count_section(counts, SectionKind::Batch, &done.lists) else {
-        return Err(Stop::OutOfMemory);
+        return Err(UnitStop::OutOfMemory);
     };
     write_replies(alloc, items.as_slice(), &done.replies, out)?;
     write_section(
@@ -79,20 +79,20 @@ pub fn serve_batch<C: Crew, F: Files, S: Sink>(
 /// Serves a trim: its reply, then its section.
 pub fn serve_trim<C: Crew, F: Files, S: Sink>(
     crew: &C,
-    setting: &Setting<'_>,
+    service: &Service<'_>,
     most: u32,
     desk: Desk,
     files: &mut F,
     out: &mut S,
-) -> Result<Desk, Stop>
-    requires ready { IsReady (memo_of setting.now) desk (F.state files.old) }
-    ensures { ServesUnits setting.now desk (kinds.Trim most ∷ []) result
+) -> Result<Desk, UnitStop>
+    requires ready { IsReady (memo_of service.now) desk (F.state files.old) }
+    ensures { ServesUnits service.now desk (kinds.Trim most ∷ []) result
         (seen (F.state files.old) (F.made files.old) (S.faults out.old) (S.written out.old))
         (seen (F.state files.new) (F.made files.new) (S.faults out.new) (S.written out.new)) }
 {
-    let alloc = setting.alloc;
-    let design = setting.design;
-    let sizes = setting.sizes;
+    let alloc = service.alloc;
+    let design = service.design;
+    let sizes = service.sizes;
     let Desk {
         stores,
         counts,
@@ -104,7 +104,7 @@ pub fn serve_trim<C: Crew, F: Files, S: Sink>(
         count_section(counts, SectionKind::Trim, &done.lists),
         entries_in(&done.lists),
     ) else {
-        return Err(Stop::OutOfMemory);
+        return Err(UnitStop::OutOfMemory);
     };
     let text = trimmed_text(alloc, removed)?;
     write_reply(&text, out)?;
@@ -126,19 +126,19 @@ pub fn serve_trim<C: Crew, F: Files, S: Sink>(
 
 /// Tells the counts.
 pub fn serve_stats<F: Files, S: Sink>(
-    setting: &Setting<'_>,
+    service: &Service<'_>,
     desk: Desk,
     files: &mut F,
     out: &mut S,
-) -> Result<Desk, Stop>
-    requires ready { IsReady (memo_of setting.now) desk (F.state files.old) }
-    ensures { ServesUnits setting.now desk (kinds.Stats ∷ []) result
+) -> Result<Desk, UnitStop>
+    requires ready { IsReady (memo_of service.now) desk (F.state files.old) }
+    ensures { ServesUnits service.now desk (kinds.Stats ∷ []) result
         (seen (F.state files.old) (F.made files.old) (S.faults out.old) (S.written out.old))
         (seen (F.state files.new) (F.made files.new) (S.faults out.new) (S.written out.new)) }
 {
-    let alloc = setting.alloc;
+    let alloc = service.alloc;
     let Some(cells) = cells_in(&desk.stores) else {
-        return Err(Stop::OutOfMemory);
+        return Err(UnitStop::OutOfMemory);
     };
     let counts = desk.counts;
     let text = stats_text(alloc, counts.batches, counts.fills, counts.evictions, cells)?;
@@ -149,45 +149,45 @@ pub fn serve_stats<F: Files, S: Sink>(
 /// Serves a unit.
 pub fn serve_unit<C: Crew, F: Files, S: Sink>(
     crew: &C,
-    setting: &Setting<'_>,
+    service: &Service<'_>,
     unit: Unit,
     desk: Desk,
     files: &mut F,
     out: &mut S,
-) -> Result<Desk, Stop>
-    requires fit { IsFit setting.now.design.now.circuit.horizon unit }
-    requires ready { IsReady (memo_of setting.now) desk (F.state files.old) }
-    ensures { ServesUnits setting.now desk (unit ∷ []) result
+) -> Result<Desk, UnitStop>
+    requires fit { IsFit service.now.design.now.circuit.horizon unit }
+    requires ready { IsReady (memo_of service.now) desk (F.state files.old) }
+    ensures { ServesUnits service.now desk (unit ∷ []) result
         (seen (F.state files.old) (F.made files.old) (S.faults out.old) (S.written out.old))
         (seen (F.state files.new) (F.made files.new) (S.faults out.new) (S.written out.new)) }
 {
     match unit {
-        Unit::Batch(items) => { serve_batch(crew, setting, items, desk, files, out) }
-        Unit::Trim(most) => serve_trim(crew, setting, most, desk, files, out),
-        Unit::Stats => serve_stats(setting, desk, files, out),
-        Unit::Question(question) => { serve_question(crew, setting, &question, desk, files, out) }
-        Unit::Vcd(file) => serve_vcd(setting, file, desk, files, out),
+        Unit::Batch(items) => { serve_batch(crew, service, items, desk, files, out) }
+        Unit::Trim(most) => serve_trim(crew, service, most, desk, files, out),
+        Unit::Stats => serve_stats(service, desk, files, out),
+        Unit::Question(question) => { serve_question(crew, service, &question, desk, files, out) }
+        Unit::Vcd(file) => serve_vcd(service, file, desk, files, out),
     }
 }
 
 /// Serves units, one after another.
 pub fn serve_units<C: Crew, F: Files, S: Sink>(
     crew: &C,
-    setting: &Setting<'_>,
+    service: &Service<'_>,
     units: UnitList,
     desk: Desk,
     files: &mut F,
     out: &mut S,
-) -> Result<Desk, Stop>
-    requires fit { All (IsFit setting.now.design.now.circuit.horizon) units }
-    requires ready { IsReady (memo_of setting.now) desk (F.state files.old) }
-    ensures { ServesUnits setting.now desk units result
+) -> Result<Desk, UnitStop>
+    requires fit { All (IsFit service.now.design.now.circuit.horizon) units }
+    requires ready { IsReady (memo_of service.now) desk (F.state files.old) }
+    ensures { ServesUnits service.now desk units result
         (seen (F.state files.old) (F.made files.old) (S.faults out.old) (S.written out.old))
         (seen (F.state files.new) (F.made files.new) (S.faults out.new) (S.written out.new)) }
 {
     let mut desk = desk;
     for unit in units.into_vec() {
-        desk = serve_unit(crew, setting, unit, desk, files, out)?;
+        desk = serve_unit(crew, service, unit, desk, files, out)?;
     }
     Ok(desk)
 }

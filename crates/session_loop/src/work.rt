@@ -7,12 +7,12 @@ ghost use Rattle.cell_store.specs.Recency.{contents};
 ghost use Rattle.unit_answers.specs.Done.{IsBatchDone};
 ghost use Rattle.session_loop.specs.Halting.{WroteJournal, IsWork, IsWorkHalted};
 ghost use Rattle.session_loop.specs.Serving.{memo_of};
-ghost use Rattle.session_loop.specs.Outside.{WorkChanges};
+ghost use Rattle.session_loop.specs.Outside.{JournalChanges};
 
-use crate::halt::Halt;
+use crate::halt::JournalHalt;
 use crate::journal::begin_journal;
 use crate::section::write_section;
-use crate::setting::Setting;
+use crate::service::Service;
 use crate::stores::empty_stores;
 use backsim_io::Files;
 use journal_text::SectionKind;
@@ -25,29 +25,29 @@ use worker_gate::Crew;
 /// finish, once he has told of the replies.
 pub fn serve_work<C: Crew, F: Files>(
     crew: &C,
-    setting: &Setting<'_>,
+    service: &Service<'_>,
     items: &[Item],
     journal: &str,
     files: &mut F,
-) -> Result<BatchDone, Halt>
-    requires shards { (0 < setting.now.sizes.shards) × (setting.now.sizes.shards ≤ 64) }
-    requires cells { (0 < setting.now.sizes.cells) × (setting.now.sizes.cells ≤ 65536) }
-    requires within { IsWithin setting.now.design.now.circuit.horizon items.now }
+) -> Result<BatchDone, JournalHalt>
+    requires shards { (0 < service.now.sizes.shards) × (service.now.sizes.shards ≤ 64) }
+    requires cells { (0 < service.now.sizes.cells) × (service.now.sizes.cells ≤ 65536) }
+    requires within { IsWithin service.now.design.now.circuit.horizon items.now }
     requires lines { HaveOwnLines items.now }
     requires files { (F.state files.old).created ≡ 0 }
-    ensures done { IfOk result (λ done. IsBatchDone (memo_of setting.now) items.now
-        (replicate setting.now.sizes.shards (contents setting.now.sizes.cells []))
+    ensures done { IfOk result (λ done. IsBatchDone (memo_of service.now) items.now
+        (replicate service.now.sizes.shards (contents service.now.sizes.cells []))
         done.replies.items done.lists.items done.stores.items) }
     ensures worked { IfOk result (λ done. WroteJournal
-        (IsWork (memo_of setting.now) items.now done.replies.items) journal.now
+        (IsWork (memo_of service.now) items.now done.replies.items) journal.now
         (F.made files.old) (F.made files.new)) }
-    ensures halted { IfErr result (IsWorkHalted (memo_of setting.now) items.now journal.now
+    ensures halted { IfErr result (IsWorkHalted (memo_of service.now) items.now journal.now
         (F.made files.old) (F.made files.new)) }
-    ensures state { WorkChanges (F.state files.old) (F.state files.new) result }
+    ensures state { JournalChanges (F.state files.old) (F.state files.new) result }
 {
-    let alloc = setting.alloc;
-    let design = setting.design;
-    let sizes = setting.sizes;
+    let alloc = service.alloc;
+    let design = service.design;
+    let sizes = service.sizes;
     begin_journal(alloc, sizes, journal, files)?;
     let stores = empty_stores(alloc, sizes)?;
     let done = answer_batch(crew, alloc, design, items, sizes, stores)?;

@@ -1,84 +1,43 @@
--- Why a session stops, and what is written of it.
-use Rattle.std.specs.Prelude.{ℕ, ◌≡◌, ⊤, List}
+-- How a session ends that stopped, and what is written of it.
+use Rattle.std.specs.Prelude.{ℕ, ◌≡◌, ◌⊎◌, List}
 use Rattle.backsim_io.specs.Counts.{Rose, Grows, GrowsByPrefix, Stays}
 use Rattle.session_loop.specs.declared.halt.Halt.{Halt}
-use Rattle.session_loop.specs.declared.halt.Halt.TheVariants.{JournalUnmade, Stopped, JournalUnfinished}
-use Rattle.session_loop.specs.declared.stop.Stop.TheVariants as stops
-use Rattle.circuit_files.specs.Texts as texts
-use Rattle.circuit_files.specs.declared.refusal.CircuitFile.{CircuitFile}
-use Rattle.circuit_files.specs.declared.refusal.CircuitFile.TheVariants as circuit
+use Rattle.session_loop.specs.declared.halt.Halt.TheVariants.{JournalUnmade, Unbegun, Stopped, JournalUnfinished}
+use Rattle.session_loop.specs.declared.stop.ScriptStop.TheVariants.{Unread, TooLong, Unit}
+use Rattle.circuit_files.specs.Texts.{refusal_text}
 use Rattle.circuit_files.specs.declared.stop.FilesStop.{FilesStop}
 use Rattle.circuit_files.specs.declared.stop.FilesStop.TheVariants as files
 use Rattle.backsim.specs.Texts.{too_long}
-use Rattle.backsim.specs.declared.status.Place.{Place}
-use Rattle.backsim.specs.declared.status.Place.TheVariants.{Netlist, Timing, Stimulus, Journal, Script, Replies, Vcd}
+use Rattle.backsim.specs.declared.status.Input.TheVariants as inputs
+use Rattle.backsim.specs.declared.status.Output.TheVariants as outputs
+use Rattle.backsim.specs.declared.status.NamedFile.TheVariants as named
 use Rattle.backsim.specs.declared.status.Status.{Status}
-use Rattle.backsim.specs.declared.status.Status.TheVariants as statuses
-use Rattle.backsim.specs.declared.refusal.Refusal.{Refusal}
-use Rattle.backsim.specs.declared.refusal.Refusal.TheVariants.{OfFiles, ScriptTooLong}
-use Rattle.backsim.specs.declared.refusal.Stop.{Stop}
-use Rattle.backsim.specs.declared.refusal.Stop.TheVariants.{Refused, ReadFault, WriteFault, FileFault, OutOfMemory}
+use Rattle.backsim.specs.declared.status.Status.TheVariants.{Refused, ReadFault, WriteFault, FileFault, OutOfMemory}
+use Rattle.backsim.specs.inner.Statuses.{of_journal, of_unit}
 
--- the status that a stop ends with, once its refusal is written
-abbrev pub status_of : Stop → Status
-status_of (Refused refusal) = statuses.Refused
-status_of (ReadFault place) = statuses.ReadFault place
-status_of (WriteFault place) = statuses.WriteFault place
-status_of (FileFault place) = statuses.FileFault place
-status_of OutOfMemory = statuses.OutOfMemory
+-- A text was written, which this status tells of, or not wholly, or there was no memory to make it.
+abbrev pub Tells : List ℕ → Status → ℕ → (List ℕ → Type 0) → ℕ → (List ℕ → Type 0) → Status → Type 0
+Tells text told faults out new_faults new_out status =
+    ((status ≡ told) × (new_faults ≡ faults) × Grows out new_out text)
+    ⊎ (((status ≡ WriteFault outputs.Replies) × Rose faults new_faults × GrowsByPrefix out new_out text)
+    ⊎ ((status ≡ OutOfMemory) × (new_faults ≡ faults) × Stays out new_out))
 
--- the place of one of the three files
-abbrev pub place_of : CircuitFile → Place
-place_of circuit.Netlist = Netlist
-place_of circuit.Timing = Timing
-place_of circuit.Stimulus = Stimulus
+-- the status tells of it, and nothing was written
+abbrev pub EndsAs : Status → ℕ → (List ℕ → Type 0) → ℕ → (List ℕ → Type 0) → Status → Type 0
+EndsAs met faults out new_faults new_out status = (status ≡ met) × (new_faults ≡ faults) × Stays out new_out
 
--- what a stop of the three files is
-abbrev pub files_stop : FilesStop → Stop
-files_stop (files.Refused refusal) = Refused (OfFiles refusal)
-files_stop (files.NotOpened file) = FileFault (place_of file)
-files_stop (files.Unread file) = ReadFault (place_of file)
-files_stop files.OutOfMemory = OutOfMemory
+-- the files make no design
+abbrev pub EndsByFiles : FilesStop → ℕ → (List ℕ → Type 0) → ℕ → (List ℕ → Type 0) → Status → Type 0
+EndsByFiles (files.Refused refusal) = Tells (refusal_text refusal) Refused
+EndsByFiles (files.NotOpened file) = EndsAs (FileFault (named.Circuit file))
+EndsByFiles (files.Unread file) = EndsAs (ReadFault (inputs.Circuit file))
+EndsByFiles files.OutOfMemory = EndsAs OutOfMemory
 
--- what a halt of the session's loop is
-abbrev pub stop_of : Halt → Stop
-stop_of JournalUnmade = FileFault Journal
-stop_of (Stopped stops.ScriptUnread) = ReadFault Script
-stop_of (Stopped stops.ScriptTooLong) = Refused ScriptTooLong
-stop_of (Stopped stops.RepliesUnwritten) = WriteFault Replies
-stop_of (Stopped stops.JournalUnwritten) = WriteFault Journal
-stop_of (Stopped stops.DumpUnmade) = FileFault Vcd
-stop_of (Stopped stops.DumpUnwritten) = WriteFault Vcd
-stop_of (Stopped stops.DumpUnfinished) = FileFault Vcd
-stop_of (Stopped stops.OutOfMemory) = OutOfMemory
-stop_of JournalUnfinished = FileFault Journal
-
--- How a session ends.
-
--- the line that tells of a refusal
-abbrev pub refusal_text : Refusal → List ℕ
-refusal_text (OfFiles refusal) = texts.refusal_text refusal
-refusal_text ScriptTooLong = too_long
-
--- the line of a refusal was written, or not wholly: the status says which
-abbrev pub IsTold : Refusal → (List ℕ → Type 0) → (List ℕ → Type 0) → Status → Type 0
-IsTold refusal out new_out statuses.Refused = Grows out new_out (refusal_text refusal)
-IsTold refusal out new_out (statuses.WriteFault Replies) = GrowsByPrefix out new_out (refusal_text refusal)
-IsTold refusal out new_out statuses.OutOfMemory = Stays out new_out
-IsTold refusal out new_out _ = ⊥
-
--- a refusal is told; of another stop nothing is written
-abbrev pub EndsWith : Stop → (List ℕ → Type 0) → (List ℕ → Type 0) → Status → Type 0
-EndsWith (Refused refusal) out new_out status = IsTold refusal out new_out status
-EndsWith stop out new_out status = (status ≡ status_of stop) × Stays out new_out
-
--- what the faults of the replies' sink tell of it
-abbrev pub ToldExplains : ℕ → ℕ → Status → Type 0
-ToldExplains old new statuses.Refused = new ≡ old
-ToldExplains old new (statuses.WriteFault Replies) = Rose old new
-ToldExplains old new statuses.OutOfMemory = ⊤
-ToldExplains old new _ = ⊥
-
-abbrev pub EndExplains : Stop → ℕ → ℕ → Status → Type 0
-EndExplains (Refused refusal) old new status = ToldExplains old new status
-EndExplains stop old new status = (status ≡ status_of stop) × (new ≡ old)
+-- the session's loop halted
+abbrev pub EndsByHalt : Halt → ℕ → (List ℕ → Type 0) → ℕ → (List ℕ → Type 0) → Status → Type 0
+EndsByHalt JournalUnmade = EndsAs (FileFault named.Journal)
+EndsByHalt (Unbegun stop) = EndsAs (of_journal stop)
+EndsByHalt (Stopped Unread) = EndsAs (ReadFault inputs.Script)
+EndsByHalt (Stopped TooLong) = Tells too_long Refused
+EndsByHalt (Stopped (Unit stop)) = EndsAs (of_unit stop)
+EndsByHalt JournalUnfinished = EndsAs (FileFault named.Journal)

@@ -1,29 +1,22 @@
 -- What only the proofs and the private functions of this crate speak of, beside `Work`.
-use Rattle.std.specs.Prelude.{◌≡◌, ⊤, ℕ, List}
+use Rattle.std.specs.Prelude.{◌≡◌, ℕ, List, Result, Ok, Err}
 use Rattle.backsim_io.specs.Counts.{Rose, Grows, GrowsByPrefix, Stays}
-use Rattle.backsim_io.specs.FilesInMemory.{list_without}
-use Rattle.backsim_io.specs.State.{FilesState, FileFault as FileFaultOf}
-use Rattle.backsim.specs.declared.status.Place.TheVariants.{Journal, Replies}
+use Rattle.backsim.specs.declared.work.LineStop.{LineStop}
+use Rattle.backsim.specs.declared.work.LineStop.TheVariants.{Unwritten, OutOfMemory}
+use Rattle.backsim.specs.declared.status.Output.TheVariants as outputs
 use Rattle.backsim.specs.declared.status.Status.{Status}
-use Rattle.backsim.specs.declared.status.Status.TheVariants.{Ended, WriteFault, FileFault, OutOfMemory}
+use Rattle.backsim.specs.declared.status.Status.TheVariants as statuses
 
--- the line was written, or not wholly: the status says which
-abbrev pub IsLineTold : List ℕ → (List ℕ → Type 0) → (List ℕ → Type 0) → Status → Type 0
-IsLineTold line out new_out Ended = Grows out new_out line
-IsLineTold line out new_out (WriteFault Replies) = GrowsByPrefix out new_out line
-IsLineTold line out new_out OutOfMemory = Stays out new_out
-IsLineTold line out new_out _ = ⊥
+abbrev pub of_line : LineStop → Status
+of_line Unwritten = statuses.WriteFault outputs.Replies
+of_line OutOfMemory = statuses.OutOfMemory
 
--- what the faults of the replies' sink tell of it
-abbrev pub LineExplains : ℕ → ℕ → Status → Type 0
-LineExplains old new Ended = new ≡ old
-LineExplains old new (WriteFault Replies) = Rose old new
-LineExplains old new OutOfMemory = ⊤
-LineExplains old new _ = ⊥
+-- the line was not written, or not wholly
+abbrev pub IsLineCut : List ℕ → LineStop → ℕ → (List ℕ → Type 0) → ℕ → (List ℕ → Type 0) → Type 0
+IsLineCut line Unwritten faults out new_faults new_out = Rose faults new_faults × GrowsByPrefix out new_out line
+IsLineCut line OutOfMemory faults out new_faults new_out = (new_faults ≡ faults) × Stays out new_out
 
--- where the line was told the journal was finished, or could not be; where it was not, no file changed
-abbrev pub EndsWork : Status → FilesState → FilesState → Status → Type 0
-EndsWork Ended old new Ended = new ≡ record old { unfinished = list_without old.unfinished 0 }
-EndsWork Ended old new (FileFault Journal) = FileFaultOf old new
-EndsWork Ended old new _ = ⊥
-EndsWork told old new status = (status ≡ told) × (new ≡ old)
+-- what was written of it, by the outcome
+abbrev pub IsLineTold : {A : Type 0} → List ℕ → Result A LineStop → ℕ → (List ℕ → Type 0) → ℕ → (List ℕ → Type 0) → Type 0
+IsLineTold line (Ok done) faults out new_faults new_out = (new_faults ≡ faults) × Grows out new_out line
+IsLineTold line (Err stop) faults out new_faults new_out = IsLineCut line stop faults out new_faults new_out

@@ -4,7 +4,8 @@ use Rattle.owned_text.specs.Made.{Made}
 use Rattle.backsim_io.specs.Counts.{Grows}
 use Rattle.backsim_io.specs.FilesInMemory.{FileGrows}
 use Rattle.backsim_io.specs.State.{FilesState}
-use Rattle.session_loop.specs.declared.stop.Stop.{Stop}
+use Rattle.session_loop.specs.declared.stop.JournalStop.{JournalStop}
+use Rattle.session_loop.specs.declared.stop.RepliesStop.{RepliesStop}
 use Rattle.session_loop.specs.Outside.{JournalStops}
 use Rattle.session_loop.specs.inner.Outside.{RepliesStops}
 use Rattle.session_loop.specs.inner.Growing.{GrowsPart, FileGrowsPart, KeepsBack}
@@ -17,7 +18,7 @@ pub record Recorded (lines : List ℕ) (old : FilesState) (made : List Made → 
   pub state : new ≡ old
 
 -- a part of them was written
-pub record RecordedPart (lines : List ℕ) (stop : Stop) (old : FilesState) (made : List Made → Type 0) (new : FilesState) (new_made : List Made → Type 0) : Type 0 where
+pub record RecordedPart (lines : List ℕ) (stop : JournalStop) (old : FilesState) (made : List Made → Type 0) (new : FilesState) (new_made : List Made → Type 0) : Type 0 where
   pub begun : FileGrowsPart made new_made 0 lines
   pub state : JournalStops old new stop
 
@@ -27,11 +28,11 @@ pub record RecordedBehind (before lines left : List ℕ) (old : FilesState) (mad
   pub state : new ≡ old
 
 -- what the writing of lines comes to, by the outcome
-abbrev pub Records : {A : Type 0} → List ℕ → Result A Stop → FilesState → (List Made → Type 0) → FilesState → (List Made → Type 0) → Type 0
+abbrev pub Records : {A : Type 0} → List ℕ → Result A JournalStop → FilesState → (List Made → Type 0) → FilesState → (List Made → Type 0) → Type 0
 Records lines (Ok done) = Recorded lines
 Records lines (Err stop) = RecordedPart lines stop
 
-abbrev pub RecordsBehind : {A : Type 0} → List ℕ → List ℕ → List ℕ → Result A Stop → FilesState → (List Made → Type 0) → FilesState → (List Made → Type 0) → Type 0
+abbrev pub RecordsBehind : {A : Type 0} → List ℕ → List ℕ → List ℕ → Result A JournalStop → FilesState → (List Made → Type 0) → FilesState → (List Made → Type 0) → Type 0
 RecordsBehind kept lines left (Ok done) = RecordedBehind kept lines left
 RecordsBehind kept lines left (Err stop) = RecordedPart (kept ++ lines) stop
 
@@ -43,7 +44,7 @@ pub record Replied (text : List ℕ) (old : ℕ) (out : List ℕ → Type 0) (ne
   pub state : new ≡ old
 
 -- a part of it was written
-pub record RepliedPart (text : List ℕ) (stop : Stop) (old : ℕ) (out : List ℕ → Type 0) (new : ℕ) (new_out : List ℕ → Type 0) : Type 0 where
+pub record RepliedPart (text : List ℕ) (stop : RepliesStop) (old : ℕ) (out : List ℕ → Type 0) (new : ℕ) (new_out : List ℕ → Type 0) : Type 0 where
   pub begun : GrowsPart out new_out text
   pub state : RepliesStops old new stop
 
@@ -53,10 +54,10 @@ pub record RepliedBehind (before text left : List ℕ) (old : ℕ) (out : List �
   pub state : new ≡ old
 
 -- what the writing of replies comes to, by the outcome
-abbrev pub Replies : {A : Type 0} → List ℕ → Result A Stop → ℕ → (List ℕ → Type 0) → ℕ → (List ℕ → Type 0) → Type 0
+abbrev pub Replies : {A : Type 0} → List ℕ → Result A RepliesStop → ℕ → (List ℕ → Type 0) → ℕ → (List ℕ → Type 0) → Type 0
 Replies text (Ok done) = Replied text
 Replies text (Err stop) = RepliedPart text stop
 
-abbrev pub RepliesBehind : {A : Type 0} → List ℕ → List ℕ → List ℕ → Result A Stop → ℕ → (List ℕ → Type 0) → ℕ → (List ℕ → Type 0) → Type 0
+abbrev pub RepliesBehind : {A : Type 0} → List ℕ → List ℕ → List ℕ → Result A RepliesStop → ℕ → (List ℕ → Type 0) → ℕ → (List ℕ → Type 0) → Type 0
 RepliesBehind kept text left (Ok done) = RepliedBehind kept text left
 RepliesBehind kept text left (Err stop) = RepliedPart (kept ++ text) stop

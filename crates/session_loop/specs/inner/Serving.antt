@@ -6,13 +6,12 @@ use Rattle.journal_text.specs.Spelling.{section_lines}
 use Rattle.journal_text.specs.declared.sections.SectionKind.TheVariants.{Held}
 use Rattle.query_lines.specs.declared.unit.Unit.{Unit as ScriptUnit}
 use Rattle.session_meaning.specs.Session.{Setup, Course, Session}
-use Rattle.session_meaning.specs.Broken.{journal_of, IsBroken, IsBrokenInJournal, IsBrokenInDump}
+use Rattle.session_meaning.specs.Broken.{journal_of}
 use Rattle.session_loop.specs.declared.desk.Desk.{Desk}
-use Rattle.session_loop.specs.declared.setting.Setting.{Setting}
-use Rattle.session_loop.specs.declared.stop.Stop.{Stop}
-use Rattle.session_loop.specs.declared.stop.Stop.TheVariants.{ScriptUnread, ScriptTooLong, RepliesUnwritten, JournalUnwritten, DumpUnmade, DumpUnwritten, DumpUnfinished, OutOfMemory}
+use Rattle.session_loop.specs.declared.service.Service.{Service}
+use Rattle.session_loop.specs.declared.stop.UnitStop.{UnitStop}
 use Rattle.session_loop.specs.Outside.{Seen, OfFiles, Dumped, UnitsStop}
-use Rattle.session_loop.specs.Serving.{memo_of, session_of}
+use Rattle.session_loop.specs.Serving.{BreaksAt, memo_of, session_of}
 use Rattle.session_loop.specs.inner.Desks.{IsReady, Keeps}
 use Rattle.session_loop.specs.inner.Growing.{GoesOn, FilesGoOn}
 
@@ -24,17 +23,6 @@ pub record ServedTo (setup : Setup) (units : List ScriptUnit) (now : Course) (de
   pub replied : GoesOn before.written after.written now.out next.out
   pub recorded : FilesGoOn before.made after.made (journal_of setup now) now.dumps (journal_of setup next) next.dumps
 
--- where a stop breaks off: in a dump before its reply, in the sections of a unit, or in any unit
-abbrev pub BreaksAt : Setup → List ℕ → List ℕ → List Made → Stop → List ScriptUnit → List ScriptUnit → Type 0
-BreaksAt setup replies journal dumps DumpUnmade done later = IsBrokenInDump setup done later replies journal dumps
-BreaksAt setup replies journal dumps DumpUnwritten done later = IsBrokenInDump setup done later replies journal dumps
-BreaksAt setup replies journal dumps DumpUnfinished done later = IsBrokenInDump setup done later replies journal dumps
-BreaksAt setup replies journal dumps ScriptUnread done later = IsBroken setup done later replies journal dumps
-BreaksAt setup replies journal dumps ScriptTooLong done later = IsBroken setup done later replies journal dumps
-BreaksAt setup replies journal dumps RepliesUnwritten done later = IsBroken setup done later replies journal dumps
-BreaksAt setup replies journal dumps JournalUnwritten done later = IsBrokenInJournal setup done later replies journal dumps
-BreaksAt setup replies journal dumps OutOfMemory done later = IsBroken setup done later replies journal dumps
-
 -- Of `more` units, which come behind others, some first ones are done; this holds of all that are done and of the later ones.
 pub record Within (units more : List ScriptUnit) (says : List ScriptUnit → List ScriptUnit → Type 0) : Type 0 where
   pub done : List ScriptUnit
@@ -43,7 +31,7 @@ pub record Within (units more : List ScriptUnit) (says : List ScriptUnit → Lis
   pub broken : says (units ++ done) later
 
 -- From what the session had come to with these units, it broke off within `more` units.
-pub record StoppedIn (setup : Setup) (units more : List ScriptUnit) (now : Course) (before after : Seen) (stop : Stop) : Type 0 where
+pub record StoppedIn (setup : Setup) (units more : List ScriptUnit) (now : Course) (before after : Seen) (stop : UnitStop) : Type 0 where
   pub replies : List ℕ
   pub journal : List ℕ
   pub dumps : List Made
@@ -58,30 +46,30 @@ Serves setup desk later more before after = (units : List ScriptUnit) (now : Cou
     → Session setup units now → Keeps setup desk now → ServedTo setup (units ++ more) now later before after
 
 -- Whatever was served before, the session broke off within these units after it.
-abbrev pub Stops : Setup → Desk → List ScriptUnit → Seen → Seen → Stop → Type 0
+abbrev pub Stops : Setup → Desk → List ScriptUnit → Seen → Seen → UnitStop → Type 0
 Stops setup desk more before after stop = (units : List ScriptUnit) (now : Course)
     → Session setup units now → Keeps setup desk now → StoppedIn setup units more now before after stop
 
 -- Whatever was served before, the units `first` were served after it, and then the session broke off within `more`.
-abbrev pub StopsAfter : Setup → Desk → List ScriptUnit → List ScriptUnit → Seen → Seen → Stop → Type 0
+abbrev pub StopsAfter : Setup → Desk → List ScriptUnit → List ScriptUnit → Seen → Seen → UnitStop → Type 0
 StopsAfter setup desk first more before after stop = (units : List ScriptUnit) (now : Course)
     → Session setup units now → Keeps setup desk now → StoppedIn setup (units ++ first) more now before after stop
 
 -- Units were served: the next ones can be, and of the files only dumps are new. This, and all below, holds whatever the names of files.
-pub record UnitsServed (setting : Setting) (desk later : Desk) (units : List ScriptUnit) (before after : Seen) : Type 0 where
-  pub ready : IsReady (memo_of setting) later after.outputs.files
-  pub served : (names : List (List ℕ)) → Serves (session_of setting names) desk later units before after
+pub record UnitsServed (service : Service) (desk later : Desk) (units : List ScriptUnit) (before after : Seen) : Type 0 where
+  pub ready : IsReady (memo_of service) later after.outputs.files
+  pub served : (names : List (List ℕ)) → Serves (session_of service names) desk later units before after
   pub state : OfFiles Dumped before.outputs after.outputs
 
 -- The session broke off within units.
-pub record UnitsStopped (setting : Setting) (desk : Desk) (units : List ScriptUnit) (before after : Seen) (stop : Stop) : Type 0 where
-  pub stopped : (names : List (List ℕ)) → Stops (session_of setting names) desk units before after stop
+pub record UnitsStopped (service : Service) (desk : Desk) (units : List ScriptUnit) (before after : Seen) (stop : UnitStop) : Type 0 where
+  pub stopped : (names : List (List ℕ)) → Stops (session_of service names) desk units before after stop
   pub state : UnitsStop before.outputs after.outputs stop
 
 -- what units come to, by the outcome
-abbrev pub ServesUnits : Setting → Desk → List ScriptUnit → Result Desk Stop → Seen → Seen → Type 0
-ServesUnits setting desk units (Ok later) before after = UnitsServed setting desk later units before after
-ServesUnits setting desk units (Err stop) before after = UnitsStopped setting desk units before after stop
+abbrev pub ServesUnits : Service → Desk → List ScriptUnit → Result Desk UnitStop → Seen → Seen → Type 0
+ServesUnits service desk units (Ok later) before after = UnitsServed service desk later units before after
+ServesUnits service desk units (Err stop) before after = UnitsStopped service desk units before after stop
 
 -- the text of the section of a memo of its own, under this number, if a question had one
 abbrev pub held_text : ℕ → List (List Entry) → List ℕ

@@ -1,7 +1,6 @@
-use Rattle.std.proofs.Common.{◌≡◌, ◌∙◌, [], inl, inr, refl, sym, subst, map, Option, Some, None}
-use Rattle.command_words.specs.Words.{words_of, Form}
+use Rattle.std.proofs.Common.{map}
+use Rattle.command_words.specs.Words.{words_of}
 use Rattle.backsim.specs.Seen.{Seen}
-use Rattle.backsim.specs.declared.status.Status.TheVariants.{Ended, OutOfMemory}
 use Rattle.backsim.proofs.Asked.{form-said, none-said, on-session, on-workload, on-usage, no-memory}
 use Rattle.backsim.proofs.Ranges.{session-in-range, workload-in-range}
 use Rattle.backsim.proofs.serve.serve.Goals as goal
@@ -51,10 +50,9 @@ returns-in-Err-clause-serves g c =
 -- they are of no form
 pub returns-in-Ok-None-clause-serves : goal.returns-in-Ok-None-clause-serves
 returns-in-Ok-None-clause-serves g c =
-    let told = c.write_usage.ensures in
-    on-usage (g.Q.Source.state c.args.queries.now) (g.S.Sink.faults c.args.out.now) (g.S.Sink.faults c.write_usage.new.out) (g.F.Files.state c.args.files.now)
-    (g.S.Sink.written c.args.out.now) (g.S.Sink.written c.write_usage.new.out) (g.F.Files.made c.args.files.now) c.write_usage.result (words_of (map (λ word. word.now) c.args.words.now))
-    (none-said c.in-Ok-None.field-0 (words_of (map (λ word. word.now) c.args.words.now)) c.in-Ok-None.field-0-is c.in-Ok-None.ensures) told.status told.whole told.part told.calm told.failed
+    on-usage (g.Q.Source.state c.args.queries.now) (g.S.Sink.faults c.args.out.now) (g.S.Sink.faults c.tell.new.out) (g.F.Files.state c.args.files.now)
+    (g.S.Sink.written c.args.out.now) (g.S.Sink.written c.tell.new.out) (g.F.Files.made c.args.files.now) c.tell.result (words_of (map (λ word. word.now) c.args.words.now))
+    (none-said c.in-Ok-None.field-0 (words_of (map (λ word. word.now) c.args.words.now)) c.in-Ok-None.field-0-is c.in-Ok-None.ensures) c.tell.ensures
 
 pub returns-in-Ok-Some-Session-clause-serves : goal.returns-in-Ok-Some-Session-clause-serves
 returns-in-Ok-Some-Session-clause-serves g c =

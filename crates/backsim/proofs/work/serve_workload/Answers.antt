@@ -1,17 +1,12 @@
-use Rattle.std.proofs.Common.{◌≡◌, ◌∙◌, ◌+◌, [], inl, inr, refl, subst, sym, ap}
-use Rattle.backsim_io.specs.State.{FilesState}
+use Rattle.std.proofs.Common.{◌≡◌, subst, sym}
+use Rattle.backsim_io.specs.Counts.{Grows}
 use Rattle.query_lines.specs.Fit.{HaveOwnLines}
-use Rattle.session_loop.specs.Outside.{with_file}
 use Rattle.session_loop.specs.Halting.{IsWork}
-use Rattle.session_loop.proofs.Changes.{journal-open, work-finished}
-use Rattle.backsim.specs.Seen.{Seen}
-use Rattle.backsim.specs.Work.{setup_of_work}
-use Rattle.backsim.specs.declared.status.Status.TheVariants.{Ended, OutOfMemory}
-use Rattle.backsim.specs.inner.Stops.{stop_of}
-use Rattle.backsim.proofs.Ends.{ends-early, early-not_ended}
-use Rattle.backsim.proofs.Explained.{none-unfinished}
-use Rattle.backsim.proofs.Halts.{of-halt}
-use Rattle.backsim.proofs.Worked.{work-fit, recorded-same, ends-finished, ends-unread, told-served, told-leaves, line-explains, halt-leaves-work, work-ends, work-unread, no-work}
+use Rattle.session_loop.proofs.Changes.{journal-open}
+use Rattle.backsim.specs.Seen.{Seen, seen_of}
+use Rattle.backsim.specs.Serves.{ServesWorkload}
+use Rattle.backsim.specs.Work.{setup_of_work, work_line}
+use Rattle.backsim.proofs.Worked.{work-fit, recorded-same, line-untold, work-done, work-unfinished, work-halted, no-work}
 use Rattle.backsim.proofs.work.serve_workload.Goals as goal
 
 -- the items are a batch of a script
@@ -35,51 +30,71 @@ returns-then-horizon-ne-HORIZON-clause-serves g c script =
     let before : Seen = record { outside = record { outputs = record { files = g.F.Files.state c.args.files.now; replies = g.S.Sink.faults c.args.out.now }; script = script }; written = g.S.Sink.written c.args.out.now; made = g.F.Files.made c.args.files.now } in no-work c.args.asked.now.number c.args.asked.now.journal.now before
 
 -- it was answered
-pub end_work-requires : goal.end_work-requires
-end_work-requires g c = journal-open (g.F.Files.state c.args.files.now) (g.F.Files.state c.serve_work.new.files) c.requires.created c.in-Ok-serve_work.ensures.state
+pub finish_journal-requires : goal.finish_journal-requires
+finish_journal-requires g c = journal-open (g.F.Files.state c.args.files.now) (g.F.Files.state c.serve_work.new.files) c.requires.created c.in-Ok-serve_work.ensures.state
 
+-- its line was not written
 pub returns-in-Ok-serve_work-clause-serves : goal.returns-in-Ok-serve_work-clause-serves
 returns-in-Ok-serve_work-clause-serves g c script =
+    let F = g.F.Files.state in
     let M = g.F.Files.made in
-    let before : Seen = record { outside = record { outputs = record { files = g.F.Files.state c.args.files.now; replies = g.S.Sink.faults c.args.out.now }; script = script }; written = g.S.Sink.written c.args.out.now; made = M c.args.files.now } in
-    let after : Seen = record { outside = record { outputs = record { files = g.F.Files.state c.end_work.new.files; replies = g.S.Sink.faults c.tell-told.new.out }; script = script }; written = g.S.Sink.written c.tell-told.new.out; made = M c.end_work.new.files } in
-    let old = g.F.Files.state c.args.files.now in
-    let mid = g.F.Files.state c.serve_work.new.files in
-    let new = g.F.Files.state c.end_work.new.files in
-    let begun : mid ≡ with_file old = c.in-Ok-serve_work.ensures.state in
+    let N = g.S.Sink.faults in
+    let W = g.S.Sink.written in
+    let number = c.args.asked.now.number in
+    let name = c.args.asked.now.journal.now in
+    let before : Seen = seen_of (F c.args.files.now) (M c.args.files.now) script (N c.args.out.now) (W c.args.out.now) in
+    let after : Seen = seen_of (F c.serve_work.new.files) (M c.serve_work.new.files) script (N c.tell_counts.new.out) (W c.tell_counts.new.out) in
+    subst (ServesWorkload number name before after) (sym c.from.ensures)
+    (line-untold number c.in-Ok.work name c.in-Ok-serve_work.done.replies.items c.in-Ok.ensures script (N c.args.out.now) (N c.tell_counts.new.out) (W c.args.out.now) (W c.tell_counts.new.out)
+    (M c.args.files.now) (M c.serve_work.new.files) (rw (sym c.as_slice.ensures) c.in-Ok-serve_work.ensures.worked)
+    (F c.args.files.now) (F c.serve_work.new.files) c.requires.started c.in-Ok-serve_work.ensures.state c.in-Err-tell_counts.stop (rw (sym c.deref.ensures.value) c.in-Err-tell_counts.ensures))
+
+-- it was, and the journal finished
+pub returns-in-Ok-finish_journal-clause-serves : goal.returns-in-Ok-finish_journal-clause-serves
+returns-in-Ok-finish_journal-clause-serves g c script =
+    let F = g.F.Files.state in
+    let M = g.F.Files.made in
+    let N = g.S.Sink.faults in
+    let W = g.S.Sink.written in
+    let number = c.args.asked.now.number in
+    let name = c.args.asked.now.journal.now in
     let replies = c.in-Ok-serve_work.done.replies.items in
-    let told = c.tell-told.result in
-    let status = c.end_work.result in
-    let ends = c.end_work.ensures.state in
-    let recorded = recorded-same (IsWork (setup_of_work c.in-Ok.work) c.in-Ok.work.items replies) c.args.asked.now.journal.now (M c.args.files.now) (M c.serve_work.new.files) (M c.end_work.new.files)
-    (rw (sym c.as_slice.ensures) c.in-Ok-serve_work.ensures.worked) c.end_work.ensures.made in
-    let finished = λ (is : status ≡ Ended). work-finished old mid new c.requires.created (g.met.F.Files.places c.args.files.now) begun (ends-finished told status mid new ends is).1 in
-    record {
-      ended = told-served c.args.asked.now.number c.in-Ok.work c.args.asked.now.journal.now replies before after c.in-Ok.ensures recorded told status mid new (rw (sym c.deref.ensures.value) c.tell-told.ensures.told) ends;
-      one = λ is. ap (λ (s : FilesState). s.created) (finished is) ∙ ap (λ n. n + 1) c.requires.created;
-      finished = λ is. ap (λ (s : FilesState). s.unfinished) (finished is) ∙ none-unfinished old.created old.unfinished c.requires.created (g.met.F.Files.places c.args.files.now);
-      cause = line-explains script (g.S.Sink.faults c.args.out.now) (g.S.Sink.faults c.tell-told.new.out) old mid new told status c.requires.started begun c.tell-told.ensures.cause ends;
-      leaves = told-leaves c.args.asked.now.number c.in-Ok.work c.args.asked.now.journal.now replies before after c.in-Ok.ensures recorded told status mid new (rw (sym c.deref.ensures.value) c.tell-told.ensures.told) ends;
-      unread = ends-unread told status mid new ends ∙ ap (λ (s : FilesState). s.started) begun;
-    }
+    let told : (N c.tell_counts.new.out ≡ N c.args.out.now) × Grows (W c.args.out.now) (W c.tell_counts.new.out) (work_line number replies) = rw (sym c.deref.ensures.value) c.in-Ok-tell_counts.ensures in
+    work-done number c.in-Ok.work name replies c.in-Ok.ensures script (N c.args.out.now) (N c.tell_counts.new.out) (W c.args.out.now) (W c.tell_counts.new.out)
+    (M c.args.files.now) (M c.finish_journal.new.files)
+    (recorded-same (IsWork (setup_of_work c.in-Ok.work) c.in-Ok.work.items replies) name (M c.args.files.now) (M c.serve_work.new.files) (M c.finish_journal.new.files)
+    (rw (sym c.as_slice.ensures) c.in-Ok-serve_work.ensures.worked) c.finish_journal.ensures.made)
+    (F c.args.files.now) (F c.serve_work.new.files) c.requires.started c.in-Ok-serve_work.ensures.state told.0 told.1 (F c.finish_journal.new.files)
+    c.requires.created (g.met.F.Files.places c.args.files.now) c.in-Ok-finish_journal.ensures.state
+
+-- or not
+pub returns-in-Ok-tell_counts-clause-serves : goal.returns-in-Ok-tell_counts-clause-serves
+returns-in-Ok-tell_counts-clause-serves g c script =
+    let F = g.F.Files.state in
+    let M = g.F.Files.made in
+    let N = g.S.Sink.faults in
+    let W = g.S.Sink.written in
+    let number = c.args.asked.now.number in
+    let name = c.args.asked.now.journal.now in
+    let replies = c.in-Ok-serve_work.done.replies.items in
+    let told : (N c.tell_counts.new.out ≡ N c.args.out.now) × Grows (W c.args.out.now) (W c.tell_counts.new.out) (work_line number replies) = rw (sym c.deref.ensures.value) c.in-Ok-tell_counts.ensures in
+    work-unfinished number c.in-Ok.work name replies c.in-Ok.ensures script (N c.args.out.now) (N c.tell_counts.new.out) (W c.args.out.now) (W c.tell_counts.new.out)
+    (M c.args.files.now) (M c.finish_journal.new.files)
+    (recorded-same (IsWork (setup_of_work c.in-Ok.work) c.in-Ok.work.items replies) name (M c.args.files.now) (M c.serve_work.new.files) (M c.finish_journal.new.files)
+    (rw (sym c.as_slice.ensures) c.in-Ok-serve_work.ensures.worked) c.finish_journal.ensures.made)
+    (F c.args.files.now) (F c.serve_work.new.files) c.requires.started c.in-Ok-serve_work.ensures.state told.0 told.1 (F c.finish_journal.new.files) c.in-Err-finish_journal.ensures.state
 
 -- it halted
-pub returns-in-Err-clause-serves : goal.returns-in-Err-clause-serves
-returns-in-Err-clause-serves g c script =
-    let before : Seen = record { outside = record { outputs = record { files = g.F.Files.state c.args.files.now; replies = g.S.Sink.faults c.args.out.now }; script = script }; written = g.S.Sink.written c.args.out.now; made = g.F.Files.made c.args.files.now } in
-    let after : Seen = record { outside = record { outputs = record { files = g.F.Files.state c.serve_work.new.files; replies = g.S.Sink.faults c.end_stopped.new.out }; script = script }; written = g.S.Sink.written c.end_stopped.new.out; made = g.F.Files.made c.serve_work.new.files } in
-    let old = g.F.Files.state c.args.files.now in
-    let new = g.F.Files.state c.serve_work.new.files in
-    let halt = c.in-Err.halt in
-    let status = c.end_stopped.result in
-    let told = of-halt halt c.from.result before.written after.written status c.from.ensures c.end_stopped.ensures.told in
-    let early = ends-early (stop_of halt) before.written after.written status told in
-    record {
-      ended = λ is. absurd (early-not_ended status early is);
-      one = λ is. absurd (early-not_ended status early is);
-      finished = λ is. absurd (early-not_ended status early is);
-      cause = work-ends script (g.S.Sink.faults c.args.out.now) (g.S.Sink.faults c.end_stopped.new.out) old new halt c.from.result status c.requires.started c.in-Err.ensures.state c.from.ensures c.end_stopped.ensures.cause;
-      leaves = halt-leaves-work c.args.asked.now.number c.in-Ok.work c.args.asked.now.journal.now before after halt c.from.result status c.in-Ok.ensures c.in-Err.ensures.state c.from.ensures c.end_stopped.ensures.told
-          (rw (sym c.as_slice.ensures) c.in-Err.ensures.halted);
-      unread = work-unread old new halt c.in-Err.ensures.state;
-    }
+pub returns-clause-serves : goal.returns-clause-serves
+returns-clause-serves g c script =
+    let F = g.F.Files.state in
+    let M = g.F.Files.made in
+    let N = g.S.Sink.faults in
+    let W = g.S.Sink.written in
+    let number = c.args.asked.now.number in
+    let name = c.args.asked.now.journal.now in
+    let before : Seen = seen_of (F c.args.files.now) (M c.args.files.now) script (N c.args.out.now) (W c.args.out.now) in
+    let after : Seen = seen_of (F c.serve_work.new.files) (M c.serve_work.new.files) script (N c.args.out.now) (W c.args.out.now) in
+    subst (ServesWorkload number name before after) (sym c.from-in-Err.ensures)
+    (work-halted number c.in-Ok.work name c.in-Ok.ensures script (N c.args.out.now) (W c.args.out.now) (M c.args.files.now) (M c.serve_work.new.files)
+    (F c.args.files.now) (F c.serve_work.new.files) c.in-Err.halt c.requires.started c.in-Err.ensures.state (rw (sym c.as_slice.ensures) c.in-Err.ensures.halted))

@@ -2,24 +2,17 @@ use Rattle.std.proofs.Common.{◌≡◌, ◌+◌, ◌<◌, ◌++◌, [], ap, sym
 use Rattle.std.proofs.lemmas.Grind.{common_steps}
 use Rattle.std.proofs.lemmas.List.{take_all}
 use Rattle.backsim_io.specs.Counts.{Grows}
-use Rattle.reply_lines.specs.Replies.{Suits, text_of}
+use Rattle.reply_lines.specs.Replies.{text_of}
 use Rattle.session_meaning.specs.Replies.{replies_text}
 use Rattle.session_loop.specs.inner.Growing.{GrowsPart, KeepsBack}
 use Rattle.session_loop.specs.inner.Outside.{RepliesStops}
 use Rattle.session_loop.specs.inner.Pieces.{Replies}
 use Rattle.session_loop.proofs.Growing.{handed-replies, grows-more, part-after, part-longer, keeps-more, keeps-part, replies-last}
-use Rattle.unit_answers.proofs.Zips.{zip-length, zip-get}
 use Rattle.session_loop.proofs.Pieces.{replies-next, replies-after}
 use Rattle.session_loop.proofs.section.write_replies.Goals as goal
 
 pub bounds-replies-i : goal.bounds-replies-i
-bounds-replies-i g c = omega (arith, c.loop-i-test.true, zip-length (λ item reply. Suits item.what reply) c.args.items.now c.args.replies.now c.requires.suits)
-
-pub push_reply-requires : goal.push_reply-requires
-push_reply-requires g c = record {
-  suits = subst (λ item. Suits item.what c.index-replies-i.result) (sym c.index-items-i.is)
-      (subst (Suits _) (sym c.index-replies-i.is) (zip-get (λ item reply. Suits item.what reply) c.args.items.now c.args.replies.now c.loop-i.i c.index-items-i.result c.index-replies-i.result c.requires.suits c.loop-i-test.true));
-}
+bounds-replies-i g c = omega (arith, c.loop-i-test.true, c.requires.count)
 
 pub returns-in_err-push_reply : goal.returns-in_err-push_reply
 returns-in_err-push_reply g c =
@@ -32,7 +25,7 @@ returns-in_err-push_reply g c =
     let i = c.loop-i.i in
     let item = c.index-items-i.result in
     let reply = c.index-replies-i.result in
-    let inside : i < length replies = omega (arith, c.loop-i-test.true, zip-length (λ item reply. Suits item.what reply) items replies c.requires.suits) in
+    let inside : i < length replies = omega (arith, c.loop-i-test.true, c.requires.count) in
     handed-replies c.from_residual.result c.from_residual.ensures.1 (record {
       begun = keeps-part (Grows u v) [] (replies_text (take i items) (take i replies)) c.loop-i.text.items (text_of item reply) c.loop-i.invariant.kept
           (GrowsPart v w) (GrowsPart u w) (part-after u v w) (part-longer u w)
@@ -51,7 +44,7 @@ loop-i-preserved g c =
     let i = c.loop-i.i in
     let item = c.index-items-i.result in
     let reply = c.index-replies-i.result in
-    let inside : i < length replies = omega (arith, c.loop-i-test.true, zip-length (λ item reply. Suits item.what reply) items replies c.requires.suits) in
+    let inside : i < length replies = omega (arith, c.loop-i-test.true, c.requires.count) in
     record {
       kept = subst (λ l. KeepsBack (Grows u w) [] l c.push_reply.new.text.items) (sym (replies-next items replies i item reply c.loop-i-test.true inside c.index-items-i.is c.index-replies-i.is))
           (keeps-more (Grows u v) [] (replies_text (take i items) (take i replies)) c.loop-i.text.items (text_of item reply) c.loop-i.invariant.kept
@@ -72,11 +65,10 @@ returns g c =
     let left = c.loop-i.text.items in
     let text : c.as_slice.result.now ≡ left ++ [] = grind (arith, common_steps) in
     let first = replies_text (take i items) (take i replies) in
-    let n = zip-length (λ item reply. Suits item.what reply) items replies c.requires.suits in
     let all : first ++ [] ≡ replies_text items replies =
     append-nil first
     ∙ ap (λ l. replies_text l (take i replies)) (take_all i items (omega (arith, c.loop-i-test.false)))
-    ∙ ap (replies_text items) (take_all i replies (omega (arith, c.loop-i-test.false, n))) in
+    ∙ ap (replies_text items) (take_all i replies (omega (arith, c.loop-i-test.false, c.requires.count))) in
     subst (λ l. Replies l c.write_reply.result (N c.args.out.now) u (N c.write_reply.new.out) w) all
     (replies-last [] first left [] u v w c.loop-i.invariant.kept (N c.args.out.now) (N c.loop-i.out) (N c.write_reply.new.out) c.loop-i.invariant.calm c.write_reply.result
     (subst (λ l. Replies l c.write_reply.result (N c.loop-i.out) v (N c.write_reply.new.out) w) text c.write_reply.ensures))

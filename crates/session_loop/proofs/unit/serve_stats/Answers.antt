@@ -2,6 +2,7 @@ use Rattle.std.proofs.Common.{refl, subst, ap, [], length, sum_by, ◌∙◌}
 use Rattle.backsim_io.specs.Counts.{Grows}
 use Rattle.query_lines.specs.declared.unit.Unit.TheVariants.{Stats}
 use Rattle.reply_lines.specs.Replies.{stats_line}
+use Rattle.session_loop.specs.Stops.{of_replies}
 use Rattle.session_loop.specs.Outside.{Seen, seen}
 use Rattle.session_loop.specs.inner.Growing.{GrowsPart}
 use Rattle.session_loop.proofs.Growing.{file-none}
@@ -19,29 +20,29 @@ returns-in_err-text g c =
 -- the reply was begun
 pub returns-in_err-write_reply : goal.returns-in_err-write_reply
 returns-in_err-write_reply g c =
-    let setting = c.args.setting.now in
+    let service = c.args.service.now in
     let desk = c.args.desk in
     let ready = c.requires.ready in
     let W = g.S.Sink.written in
     let before : Seen = seen (g.F.Files.state c.args.files.now) (g.F.Files.made c.args.files.now) (g.S.Sink.faults c.args.out.now) (W c.args.out.now) in
     let after : Seen = seen (g.F.Files.state c.args.files.now) (g.F.Files.made c.args.files.now) (g.S.Sink.faults c.write_reply.new.out) (W c.write_reply.new.out) in
-    let text = told setting desk before after ready in
+    let text = told service desk before after ready in
     handed-stop c.from_residual-in_err-write_reply.result c.from_residual-in_err-write_reply.ensures.1
-    (told-stopped setting desk before after ready Stats text (counts-tell setting desk before after ready) c.in_err-write_reply.field-0.0
-    (text-begun before text [] _ _ _ c.in_err-write_reply.ensures.state
+    (told-stopped service desk before after ready Stats text (counts-tell service desk before after ready) (of_replies c.in_err-write_reply.field-0.0)
+    (text-begun before text [] _ _ c.in_err-write_reply.field-0.0 c.in_err-write_reply.ensures.state
     (subst (GrowsPart (W c.args.out.now) (W c.write_reply.new.out))
     (c.deref-2.ensures.value ∙ c.in_ok-text.ensures ∙ ap (stats_line desk.counts.batches desk.counts.fills desk.counts.evictions) (c.in-Some.ensures ∙ ap (sum_by (λ store. length store.cells)) c.deref.ensures.value)) c.in_err-write_reply.ensures.begun)))
 
 pub returns : goal.returns
 returns g c =
-    let setting = c.args.setting.now in
+    let service = c.args.service.now in
     let desk = c.args.desk in
     let ready = c.requires.ready in
     let W = g.S.Sink.written in
     let before : Seen = seen (g.F.Files.state c.args.files.now) (g.F.Files.made c.args.files.now) (g.S.Sink.faults c.args.out.now) (W c.args.out.now) in
     let after : Seen = seen (g.F.Files.state c.args.files.now) (g.F.Files.made c.args.files.now) (g.S.Sink.faults c.write_reply.new.out) (W c.write_reply.new.out) in
-    let text = told setting desk before after ready in
-    told-served setting desk before after ready Stats text (counts-tell setting desk before after ready)
+    let text = told service desk before after ready in
+    told-served service desk before after ready Stats text (counts-tell service desk before after ready)
     (all-written before text [] _ _ _ _ refl c.in_ok-write_reply.ensures.state
     (subst (Grows (W c.args.out.now) (W c.write_reply.new.out))
     (c.deref-2.ensures.value ∙ c.in_ok-text.ensures ∙ ap (stats_line desk.counts.batches desk.counts.fills desk.counts.evictions) (c.in-Some.ensures ∙ ap (sum_by (λ store. length store.cells)) c.deref.ensures.value)) c.in_ok-write_reply.ensures.written)

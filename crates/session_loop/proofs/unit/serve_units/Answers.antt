@@ -11,7 +11,7 @@ loop-unit-init g c =
     record {
       next = tt;
       finite = tt;
-      served = some-first c.args.setting.now c.args.units _ _ c.args.desk
+      served = some-first c.args.service.now c.args.units _ _ c.args.desk
           (seen (g.F.Files.state c.args.files.now) (g.F.Files.made c.args.files.now) (g.S.Sink.faults c.args.out.now) (g.S.Sink.written c.args.out.now))
           (k.0 ∙ c.into_vec-unit-items.ensures) (k.1 ∙ c.into_vec-unit-items.result.ok.0 ∙ ap length c.into_vec-unit-items.ensures) c.requires.ready;
     }
@@ -31,7 +31,7 @@ returns-in_err-desk g c =
     (some-stop c.loop-unit.invariant.served c.in-Some.unit _ _ c.in_err-desk.field-0.0 c.in-Some.ensures.steps.0 c.in_err-desk.ensures)
 
 pub serve_unit-requires-clause-fit : goal.serve_unit-requires-clause-fit
-serve_unit-requires-clause-fit g c = λ κs w. some-unit c.loop-unit.invariant.served (IsFit c.args.setting.now.design.now.circuit.horizon) c.in-Some.unit _ c.in-Some.ensures.steps.0 c.requires.fit
+serve_unit-requires-clause-fit g c = λ κs w. some-unit c.loop-unit.invariant.served (IsFit c.args.service.now.design.now.circuit.horizon) c.in-Some.unit _ c.in-Some.ensures.steps.0 c.requires.fit
 
 pub serve_unit-requires-clause-ready : goal.serve_unit-requires-clause-ready
 serve_unit-requires-clause-ready g c = λ κs w. c.loop-unit.invariant.served.served.ready

@@ -8,7 +8,7 @@ abbrev pub invariant-loop-unit : goal.invariant-loop-unit
 invariant-loop-unit g l = record {
   next : (goal.iterator-loop-unit g).can_next l.unit-iterator;
   finite : (goal.iterator-loop-unit g).is_finite l.unit-iterator;
-  served : ServesSome l.setting l.fn.units (into_iter_items l.unit-iterator) (into_iter_len l.unit-iterator) l.initial.desk l.desk
+  served : ServesSome l.service l.fn.units (into_iter_items l.unit-iterator) (into_iter_len l.unit-iterator) l.initial.desk l.desk
       (seen (g.F.Files.state l.initial.files) (g.F.Files.made l.initial.files) (g.S.Sink.faults l.initial.out) (g.S.Sink.written l.initial.out))
       (seen (g.F.Files.state l.files) (g.F.Files.made l.files) (g.S.Sink.faults l.out) (g.S.Sink.written l.out));
 }

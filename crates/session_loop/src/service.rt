@@ -1,4 +1,4 @@
-//! What a session is served with.
+//! What units are served with.
 
 use design::Design;
 use std::alloc::Global;
@@ -6,7 +6,7 @@ use unit_answers::Sizes;
 
 /// The allocator, the circuit with its stimulus, and the sizes of the memo.
 #[derive(Drop)]
-pub struct Setting<'a> {
+pub struct Service<'a> {
     pub alloc: Global,
     pub design: &'a Design,
     pub sizes: Sizes,
