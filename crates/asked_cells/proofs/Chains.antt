@@ -179,15 +179,15 @@ module _ (points : List (Option Point)) (linked : ℕ) (last before : List ℕ) 
         after : List ℕ
         after = set before linked (get_or last here 0)
 
-        kept : (c : ℕ) → IsChain (set before linked (get_or last here 0)) (get_or last c 0) (chains c).places
-        kept c = chain-kept before linked (get_or last here 0) (chains c).places (get_or last c 0) (below (chains c).places c (chains c).own) (chains c).is
+        chain_stays : (c : ℕ) → IsChain (set before linked (get_or last here 0)) (get_or last c 0) (chains c).places
+        chain_stays c = chain-kept before linked (get_or last here 0) (chains c).places (get_or last c 0) (below (chains c).places c (chains c).own) (chains c).is
 
         mine : IsChainOf points (linked + 1) (length last) here (set before linked (get_or last here 0)) (get_or (set last here (linked + 1)) here 0)
         mine =
             let c = chains here in
             record {
               places = linked ∷ c.places;
-              is = (get_or-set_same last here (linked + 1) 0 low, subst (λ n. IsChain (set before linked (get_or last here 0)) n c.places) (sym (get_or-set_same before linked (get_or last here 0) 0 within)) (kept here));
+              is = (get_or-set_same last here (linked + 1) 0 low, subst (λ n. IsChain (set before linked (get_or last here 0)) n c.places) (sym (get_or-set_same before linked (get_or last here 0) 0 within)) (chain_stays here));
               own = ((omega arith, (p, said, refl)), later here c.places c.own);
               spread = ((λ q k. let same : p ≡ q = cc (said, k) in subst (λ z. LacksPoint points z c.places) same lacks), c.spread);
               has = λ place q less numbered k of.
@@ -202,7 +202,7 @@ module _ (points : List (Option Point)) (linked : ℕ) (last before : List ℕ) 
             let c = chains chain in
             record {
               places = c.places;
-              is = subst (λ n. IsChain (set before linked (get_or last here 0)) n c.places) (sym (get_or-set_other last here chain (linked + 1) 0 ne)) (kept chain);
+              is = subst (λ n. IsChain (set before linked (get_or last here 0)) n c.places) (sym (get_or-set_other last here chain (linked + 1) 0 ne)) (chain_stays chain);
               own = later chain c.places c.own;
               spread = c.spread;
               has = λ place q less numbered k of.

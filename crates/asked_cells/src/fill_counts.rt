@@ -38,7 +38,7 @@ impl FillCounts {
     }
 
     /// How many points the query with this number filled, as the map counts them.
-    fn kept(&self, number: u32) -> u32
+    fn in_map(&self, number: u32) -> u32
         ensures { result ≡ count_in (get nat_cmp self.now.by_query number) }
     {
         match self.by_query.get(&number) {
@@ -51,11 +51,11 @@ impl FillCounts {
     fn of(&self, number: u32) -> u32
         ensures { result ≡ fills_in self.now number }
     {
-        let kept = self.kept(number);
+        let in_map = self.in_map(number);
         if number == self.number {
-            kept.saturating_add(self.count)
+            in_map.saturating_add(self.count)
         } else {
-            kept
+            in_map
         }
     }
 

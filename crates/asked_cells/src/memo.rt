@@ -103,7 +103,7 @@ impl<B: BatchName> Memo<B> {
     fn find(&mut self, p: Point) -> Result<Option<Cell>, OutOfMemory>
         requires lawful { IsLawful B.batch }
         requires fresh { IsFresh B.batch B.opening (shards_in self.old) }
-        ensures kept { self.new ≡ self.old }
+        ensures same { self.new ≡ self.old }
         ensures cell { IfOk result (λ r. IfSome r (λ cell. cell ≡ cell_at B.batch.circuit p)) }
         ensures some { IfOk result (λ r. OnSome r (IsFound (cells_said (entries_of self.old)) p)) }
         ensures none { IfOk result (λ r. IfNone r
@@ -130,7 +130,7 @@ pub fn begin_with<B: BatchName>(
     requires numbers { AreNumbered shards.items }
     ensures shards { AreShards B.batch B.opening (shards_in shards.items) }
     ensures freed { AreFreed (shards_in shards.items) (shards_in result) }
-    ensures kept { AreFreeShards B.batch B.opening result }
+    ensures free { AreFreeShards B.batch B.opening result }
 {
     know_all(&shards);
     let mut freed = shards;
@@ -154,7 +154,7 @@ pub fn begin<B: BatchName>(
     requires numbers { AreNumbered shards.items }
     ensures shards { AreShards B.batch B.opening (shards_in shards.items) }
     ensures freed { IfOk result (λ memo. AreFreed (shards_in shards.items) (shards_in memo)) }
-    ensures kept { IfOk result (AreFreeShards B.batch B.opening) }
+    ensures free { IfOk result (AreFreeShards B.batch B.opening) }
 {
     know_all(&shards);
     let places = places_in(alloc, &shards, wanted)?;

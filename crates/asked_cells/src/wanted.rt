@@ -61,7 +61,7 @@ impl Wanted {
 
     /// Adds the window of a query.
     fn add(&mut self, q: Query)
-        ensures kept { (p : PointRecord) → is_wanted self.old p ≡ true → is_wanted self.new p ≡ true }
+        ensures wanted_stay { (p : PointRecord) → is_wanted self.old p ≡ true → is_wanted self.new p ≡ true }
         ensures window { (p : PointRecord) → p.signal ≡ q.signal → q.from ≤ p.time → p.time < q.to
             → is_wanted self.new p ≡ true }
     {

@@ -18,7 +18,7 @@ impl fmt::Display for Failed {
 impl Error for Failed {}
 
 /// The count after one more fault. The greatest `u64` stays as it is.
-pub(crate) fn one_more(count: u64) -> u64
+pub(crate) fn with_fault(count: u64) -> u64
     ensures { Rises count result }
 {
     count.saturating_add(1)

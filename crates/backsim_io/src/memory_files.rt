@@ -11,7 +11,7 @@ ghost use Rattle.backsim_io.specs.State.{fresh_files, FileFault, ReadFault, Writ
 ghost use Rattle.backsim_io.specs.inner.FilesInMemory.{files_of, HasRoomAt};
 
 use crate::calls::Calls;
-use crate::faults::one_more;
+use crate::faults::with_fault;
 use crate::slots::Slots;
 use crate::stored::StoredFiles;
 use crate::{Failed, Files};
@@ -125,7 +125,7 @@ impl Files for MemFiles {
     {
         let place = self.stored.place_of(name);
         if self.calls.fails() || place.is_none() {
-            self.file_faults = one_more(self.file_faults);
+            self.file_faults = with_fault(self.file_faults);
             return Err(Failed);
         }
         self.stored.start(place);
@@ -145,7 +145,7 @@ impl Files for MemFiles {
         ensures made { SameMade (files_made self.old) (files_made self.new) }
     {
         if self.calls.fails() {
-            self.read_faults = one_more(self.read_faults);
+            self.read_faults = with_fault(self.read_faults);
             return Err(Failed);
         }
         Ok(self.stored.next(into))
@@ -169,7 +169,7 @@ impl Files for MemFiles {
     {
         let place = self.slots.files();
         if self.calls.fails() || !create_empty(self.alloc, &mut self.created, name) {
-            self.file_faults = one_more(self.file_faults);
+            self.file_faults = with_fault(self.file_faults);
             return Err(Failed);
         }
         self.slots.add();
@@ -192,7 +192,7 @@ impl Files for MemFiles {
     {
         let place = slot as usize;
         if self.calls.fails() || !write_more(&mut self.created, place, piece) {
-            self.write_faults = one_more(self.write_faults);
+            self.write_faults = with_fault(self.write_faults);
             return Err(Failed);
         }
         Ok(piece.len())
@@ -209,7 +209,7 @@ impl Files for MemFiles {
         ensures made { SameMade (files_made self.old) (files_made self.new) }
     {
         if self.calls.fails() {
-            self.file_faults = one_more(self.file_faults);
+            self.file_faults = with_fault(self.file_faults);
             return Err(Failed);
         }
         self.slots.remove(slot);

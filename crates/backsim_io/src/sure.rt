@@ -1,6 +1,6 @@
 //! A source and a sink in memory that never fail.
 ghost use Rattle.std.specs.Prelude.{◌≡◌, ℕ, [], Some, length, take, drop, IfOk, vec_len, vec_capacity, ◌≤◌};
-ghost use Rattle.backsim_io.specs.KeptBytes.{Kept, kept_more};
+ghost use Rattle.backsim_io.specs.KeptBytes.{KeptBytes, kept_more};
 
 use crate::copies::copy_next;
 use crate::{Failed, Sink, Source};
@@ -40,16 +40,16 @@ impl Source for SureSource {
 /// the others.
 #[derive(Drop)]
 pub struct SureSink {
-    kept: Vec<u8>,
+    bytes: Vec<u8>,
     room: usize,
 }
 
 impl Model for SureSink {
-    ghost Value = { Kept };
+    ghost Value = { KeptBytes };
 
-    ghost view = { λ s. record { room = s.room; bytes = s.kept.items } };
+    ghost view = { λ s. record { room = s.room; bytes = s.bytes.items } };
 
-    ghost invariant = { λ s. (vec_len s.kept ≤ s.room) × (s.room ≤ vec_capacity s.kept) };
+    ghost invariant = { λ s. (vec_len s.bytes ≤ s.room) × (s.room ≤ vec_capacity s.bytes) };
 }
 
 impl SureSink {
@@ -57,23 +57,23 @@ impl SureSink {
     pub fn new(alloc: Global, room: usize) -> Result<SureSink, OutOfMemory>
         ensures { IfOk result (λ s. s ≡ record { room = room; bytes = [] }) }
     {
-        let kept = Vec::with_capacity(alloc, room)?;
-        Ok(SureSink { kept, room })
+        let bytes = Vec::with_capacity(alloc, room)?;
+        Ok(SureSink { bytes, room })
     }
 
     /// The bytes that were kept.
     pub fn bytes(&self) -> &[u8]
         ensures { result.now ≡ self.now.bytes }
     {
-        &self.kept
+        &self.bytes
     }
 
     /// Keeps the bytes for which there is room.
     pub(crate) fn keep(&mut self, piece: &[u8])
         ensures { self.new ≡ kept_more self.old piece.now }
     {
-        let n = (self.room - self.kept.len()).min(piece.len());
-        self.kept.extend_from_slice(&piece[..n]).unwrap();
+        let n = (self.room - self.bytes.len()).min(piece.len());
+        self.bytes.extend_from_slice(&piece[..n]).unwrap();
     }
 }
 

@@ -10,16 +10,16 @@ use Rattle.std.specs.Option.{option_map_or}
 use Rattle.lru.specs.LruCache.{LruCache, lru_cache, promoted, put_entries, last_entry}
 use Rattle.valid_intervals.specs.declared.SignalCell.{SignalCell}
 use Rattle.cell_store.specs.inner.Notes.{Slots, with_note, after_notes, cell_in, with_cells, AreRecent}
-use Rattle.cell_store.proofs.Entries.{Entry}
+use Rattle.cell_store.proofs.Entries.{CacheEntry}
 use Rattle.cell_store.proofs.Found.{some_same, none_some}
 use Rattle.cell_store.proofs.Uses.{without, without_both, slot_of, absent_stays}
 
 -- ---- the cells of the slots
-held-none : {X : Type 0} → IsSome {T = Entry} None → X
+held-none : {X : Type 0} → IsSome {T = CacheEntry} None → X
 held-none held = absurd (cc held)
 
 module _ (cells : List SignalCell) where
-  abbrev entry_of : ℕ × Unit {0} → Entry
+  abbrev entry_of : ℕ × Unit {0} → CacheEntry
   entry_of e = (e.0, cell_in cells e.0)
 
   lookup-with_cells : (s : ℕ) (slots : Slots) → lookup_entry (nat_eq s) (with_cells cells slots) ≡ option_map entry_of (lookup_entry (nat_eq s) slots)
@@ -35,7 +35,7 @@ module _ (cells : List SignalCell) where
   without-with_cells s (e ∷ slots) =
       elim (nat_eq s e.0) as (λ b. cond b (with_cells cells slots) (entry_of e ∷ remove_entry (nat_eq s) (with_cells cells slots)) ≡ with_cells cells (cond b slots (e ∷ without s slots))) [
         | true ↦ refl
-        | false ↦ ap (λ (l : List Entry). entry_of e ∷ l) (without-with_cells s slots)
+        | false ↦ ap (λ (l : List CacheEntry). entry_of e ∷ l) (without-with_cells s slots)
       ]
 
   -- a slot that is there
@@ -56,8 +56,8 @@ module _ (cells : List SignalCell) where
   -- its use is that of its cell
   pub used_as : (s : ℕ) (slots : Slots) → IsSome (lookup_entry (nat_eq s) (with_cells cells slots)) → with_cells cells (with_note slots s) ≡ promoted (nat_eq s) (with_cells cells slots)
   used_as s slots held =
-      sym (ap (λ (o : Option Entry). option_map_or (λ (e : Entry). e ∷ remove_entry (nat_eq s) (with_cells cells slots)) o (with_cells cells slots)) (lookup-with_cells s slots ∙ ap (option_map entry_of) (held_slot s slots held))
-      ∙ ap (λ (l : List Entry). entry_of (s, tt) ∷ l) (without-with_cells s slots))
+      sym (ap (λ (o : Option CacheEntry). option_map_or (λ (e : CacheEntry). e ∷ remove_entry (nat_eq s) (with_cells cells slots)) o (with_cells cells slots)) (lookup-with_cells s slots ∙ ap (option_map entry_of) (held_slot s slots held))
+      ∙ ap (λ (l : List CacheEntry). entry_of (s, tt) ∷ l) (without-with_cells s slots))
 
 -- cells that are the same in each of these slots
 same_cells : (cells others : List SignalCell) (s : ℕ) (slots : Slots) → lookup_entry (nat_eq s) slots ≡ None → All (λ e. e.0 < length cells) slots
@@ -68,7 +68,7 @@ same_cells cells others s (e ∷ slots) none celled same =
       | true ↦ λ at h. none_some e (sym h)
       | false ↦ λ at h.
           ap (λ (x : SignalCell). (e.0, x) ∷ with_cells others slots) (same e.0 (All-head (λ (d : ℕ × Unit {0}). d.0 < length cells) e slots celled) at)
-          ∙ ap (λ (l : List Entry). (e.0, cell_in cells e.0) ∷ l) (same_cells cells others s slots h (All-tail (λ (d : ℕ × Unit {0}). d.0 < length cells) e slots celled) same)
+          ∙ ap (λ (l : List CacheEntry). (e.0, cell_in cells e.0) ∷ l) (same_cells cells others s slots h (All-tail (λ (d : ℕ × Unit {0}). d.0 < length cells) e slots celled) same)
     ]) refl none
 
 -- ---- slots that stay when another is taken out
@@ -187,19 +187,19 @@ module _ (slots : Slots) (cells : List SignalCell) (m n cap s : ℕ) (recent : A
       rest_same : with_cells others (without s slots) ≡ with_cells cells (without s slots)
       rest_same = same_cells cells others s (without s slots) (recent.once s) (All-without (λ (e : ℕ × Unit {0}). e.0 < length cells) s slots recent.celled) same
 
-      put_as : (o : Option Entry) → lookup_entry (nat_eq s) (with_cells cells slots) ≡ o → (o ≡ None → n < cap)
+      put_as : (o : Option CacheEntry) → lookup_entry (nat_eq s) (with_cells cells slots) ≡ o → (o ≡ None → n < cap)
           → with_cells others (with_note slots s) ≡ put_entries nat_eq (lru_cache (with_cells cells slots) cap) s x
       put_as None is free =
           let none : lookup_entry (nat_eq s) slots ≡ None = empty_slot cells s slots is in
           let few : length (with_cells cells slots) ≤ cap - 1 = omega (arith, free refl, recent.many, length-map slots (entry_of cells)) in
           ap (λ (y : SignalCell). (s, y) ∷ with_cells others (without s slots)) at
-          ∙ ap (λ (l : List Entry). (s, x) ∷ l) (rest_same ∙ ap (with_cells cells) (absent_stays s slots none) ∙ sym (take_all (cap - 1) (with_cells cells slots) few))
-          ∙ sym (ap (λ (o : Option Entry). option_map_or (λ (e : Entry). (e.0, x) ∷ remove_entry (nat_eq s) (with_cells cells slots)) o ((s, x) ∷ take (cap - 1) (with_cells cells slots))) is)
+          ∙ ap (λ (l : List CacheEntry). (s, x) ∷ l) (rest_same ∙ ap (with_cells cells) (absent_stays s slots none) ∙ sym (take_all (cap - 1) (with_cells cells slots) few))
+          ∙ sym (ap (λ (o : Option CacheEntry). option_map_or (λ (e : CacheEntry). (e.0, x) ∷ remove_entry (nat_eq s) (with_cells cells slots)) o ((s, x) ∷ take (cap - 1) (with_cells cells slots))) is)
       put_as (Some e) is free =
           ap (λ (y : SignalCell). (s, y) ∷ with_cells others (without s slots)) at
-          ∙ ap (λ (l : List Entry). (s, x) ∷ l) (rest_same ∙ sym (without-with_cells cells s slots))
+          ∙ ap (λ (l : List CacheEntry). (s, x) ∷ l) (rest_same ∙ sym (without-with_cells cells s slots))
           ∙ ap (λ (t : ℕ). (t, x) ∷ remove_entry (nat_eq s) (with_cells cells slots)) (sym (slot_of s (with_cells cells slots) e is))
-          ∙ sym (ap (λ (o : Option Entry). option_map_or (λ (e : Entry). (e.0, x) ∷ remove_entry (nat_eq s) (with_cells cells slots)) o ((s, x) ∷ take (cap - 1) (with_cells cells slots))) is)
+          ∙ sym (ap (λ (o : Option CacheEntry). option_map_or (λ (e : CacheEntry). (e.0, x) ∷ remove_entry (nat_eq s) (with_cells cells slots)) o ((s, x) ∷ take (cap - 1) (with_cells cells slots))) is)
 
       -- the cells are those of a cache into which it was put
       pub pushed_as : (n < cap → lookup_entry (nat_eq s) (with_cells cells slots) ≡ None) → (cap ≤ n → IsSome (lookup_entry (nat_eq s) (with_cells cells slots)))
@@ -236,7 +236,7 @@ module _ (cells : List SignalCell) (slots : Slots) (cap : ℕ) (now : LruCache �
         → next ≡ with_note slots s → lru_cache (with_cells others next) cap ≡ lru_cache (put_entries nat_eq now s x) now.cap
     shows_pushed others k x next longer more low here at same empty held is =
         ap (λ (l : Slots). lru_cache (with_cells others l) cap) is
-        ∙ ap (λ (l : List Entry). lru_cache l cap) (pushed_as slots cells m n cap s recent others k x longer more low here at same (empty_inside empty) (full_inside held))
+        ∙ ap (λ (l : List CacheEntry). lru_cache l cap) (pushed_as slots cells m n cap s recent others k x longer more low here at same (empty_inside empty) (full_inside held))
         ∙ ap (λ (l : LruCache ℕ SignalCell). lru_cache (put_entries nat_eq l s x) l.cap) view
 
 pub length-with_cells : (cells : List SignalCell) (slots : Slots) → length (with_cells cells slots) ≡ length slots
@@ -298,5 +298,5 @@ pub cut_cells : (slots next : Slots) (cells : List SignalCell) (cap lim : ℕ) �
     → lru_cache (with_cells cells next) lim ≡ lru_cache (take (length (with_cells cells slots) - 1) (with_cells cells slots)) cap
 cut_cells slots next cells cap lim is most =
     ap (λ (l : Slots). lru_cache (with_cells cells l) lim) is ∙ ap (lru_cache (with_cells cells (take (length slots - 1) slots))) most
-    ∙ ap (λ (l : List Entry). lru_cache l cap) (sym (take-map (entry_of cells) (length slots - 1) slots))
+    ∙ ap (λ (l : List CacheEntry). lru_cache l cap) (sym (take-map (entry_of cells) (length slots - 1) slots))
     ∙ ap (λ (k : ℕ). lru_cache (take (k - 1) (with_cells cells slots)) cap) (sym (length-map slots (entry_of cells)))

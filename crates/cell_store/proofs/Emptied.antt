@@ -261,8 +261,8 @@ module _ (nodes : List Node) (heads : ℕ → Head) (lists : AreLists (held_at n
         apart : (j : ℕ) (c : Cell) → held_at nodes j ≡ Some c → (c.0 ≡ at_node.key → ⊥) → nat_eq i j ≡ false
         apart j c e other = ne_eqb i j (λ same. other (cell_same c.0 at_node.key c.1 at_node.place (sym e ∙ ap (held_at nodes) (sym same) ∙ at_node.at)).0)
 
-        kept : (j : ℕ) (c : Cell) → nat_eq i j ≡ false → held_at now j ≡ Some c → cond (nat_eq i j) None (held_at now j) ≡ Some c
-        kept j c d h = ap (λ (b : Bool). cond b None (held_at now j)) d ∙ h
+        cells_stay : (j : ℕ) (c : Cell) → nat_eq i j ≡ false → held_at now j ≡ Some c → cond (nat_eq i j) None (held_at now j) ≡ Some c
+        cells_stay j c d h = ap (λ (b : Bool). cond b None (held_at now j)) d ∙ h
 
         below : way_from nodes (link_at nodes i) ≤ at_node.key.start
         below = way_below at_node.key.start (link_at nodes i) (next_link i at_node)
@@ -270,14 +270,14 @@ module _ (nodes : List Node) (heads : ℕ → Head) (lists : AreLists (held_at n
         by : (j : ℕ) (c : Cell) → held_at nodes j ≡ Some c → held_at now j ≡ without_late signal (way_from nodes at) (Some c) → (c.0.signal ≡ signal) ⊎ (nat_eq c.0.signal signal ≡ false)
             → cond (nat_eq i j) None (held_at now j) ≡ without_late signal (way_from nodes (link_at nodes i)) (Some c)
         by j c e h (inr d) =
-            kept j c (apart j c e (λ s. not_one c.0.signal signal d (ap (λ (k : Key). k.signal) s ∙ at_node.of))) (h ∙ stays_other c (way_from nodes at) d)
+            cells_stay j c (apart j c e (λ s. not_one c.0.signal signal d (ap (λ (k : Key). k.signal) s ∙ at_node.of))) (h ∙ stays_other c (way_from nodes at) d)
             ∙ sym (stays_other c (way_from nodes (link_at nodes i)) d)
         by j c e h (inl of) =
             (elim (nat_lt c.0.start at_node.key.start) as (λ b. nat_lt c.0.start at_node.key.start ≡ b → cond (nat_eq i j) None (held_at now j) ≡ without_late signal (way_from nodes (link_at nodes i)) (Some c)) [
               | true ↦ λ t.
                   let less : c.0.start < at_node.key.start = ltb-true c.0.start at_node.key.start t in
                   let way = way_now in
-                  kept j c (apart j c e (λ s. let same : c.0.start ≡ at_node.key.start = ap (λ (k : Key). k.start) s in omega (arith, less, same))) (h ∙ stays_early c (way_from nodes at) (omega (arith, less, way)))
+                  cells_stay j c (apart j c e (λ s. let same : c.0.start ≡ at_node.key.start = ap (λ (k : Key). k.start) s in omega (arith, less, same))) (h ∙ stays_early c (way_from nodes at) (omega (arith, less, way)))
                   ∙ sym (stays_early c (way_from nodes (link_at nodes i)) (on_way (Below at_node.key.start) (link_at nodes i) (next_link i at_node) j c.0 c.1 e of less))
               | false ↦ λ t.
                   let most : at_node.key.start ≤ c.0.start = ltb-false c.0.start at_node.key.start t in

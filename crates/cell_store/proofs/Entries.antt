@@ -14,8 +14,8 @@ use Rattle.cell_store.proofs.Keys.{told_apart}
 use Rattle.cell_store.proofs.Found.{some_same, none_some, found_true}
 use Rattle.cell_store.proofs.Cached.{all_kept, all_differ}
 
-abbrev pub Entry : Type 0
-Entry = ℕ × SignalCell
+abbrev pub CacheEntry : Type 0
+CacheEntry = ℕ × SignalCell
 
 -- ---- lists
 pub is_there : {X : Type 0} (o : Option X) (x : X) → o ≡ Some x → IsSome o
@@ -34,19 +34,19 @@ split_last {X = X} (y ∷ []) zero x many h = ap (λ (u : X). u ∷ []) (some_sa
 split_last {X = X} (y ∷ ys) (suc n) x many h = ap (λ (l : List X). y ∷ l) (split_last ys n x (omega arith) h)
 
 -- a search among the cells is one among the entries
-pub find-cells_of : (f : SignalCell → Bool) (es : List Entry) → find f (cells_of es) ≡ option_map (λ (e : Entry). e.1) (find (λ (e : Entry). f e.1) es)
+pub find-cells_of : (f : SignalCell → Bool) (es : List CacheEntry) → find f (cells_of es) ≡ option_map (λ (e : CacheEntry). e.1) (find (λ (e : CacheEntry). f e.1) es)
 find-cells_of f [] = refl
 find-cells_of f (e ∷ es) =
-    elim (f e.1) as (λ b. cond b (Some e.1) (find f (cells_of es)) ≡ option_map (λ (d : Entry). d.1) (cond b (Some e) (find (λ (d : Entry). f d.1) es))) [
+    elim (f e.1) as (λ b. cond b (Some e.1) (find f (cells_of es)) ≡ option_map (λ (d : CacheEntry). d.1) (cond b (Some e) (find (λ (d : CacheEntry). f d.1) es))) [
       | true ↦ refl
       | false ↦ find-cells_of f es
     ]
 
-pub cells_of-append : (es fs : List Entry) → cells_of (es ++ fs) ≡ cells_of es ++ cells_of fs
+pub cells_of-append : (es fs : List CacheEntry) → cells_of (es ++ fs) ≡ cells_of es ++ cells_of fs
 cells_of-append [] fs = refl
 cells_of-append (e ∷ es) fs = ap (λ (l : List SignalCell). e.1 ∷ l) (cells_of-append es fs)
 
-pub length-cells_of : (es : List Entry) → length (cells_of es) ≡ length es
+pub length-cells_of : (es : List CacheEntry) → length (cells_of es) ≡ length es
 length-cells_of [] = refl
 length-cells_of (e ∷ es) = ap suc (length-cells_of es)
 
@@ -55,21 +55,21 @@ pub times-append : (s : ℕ) (xs ys : List ℕ) → times s (xs ++ ys) ≡ times
 times-append s [] ys = omega arith
 times-append s (x ∷ xs) ys = omega (arith, times-append s xs ys)
 
-pub uses_of-append : (s : ℕ) (es fs : List Entry) → uses_of s (es ++ fs) ≡ uses_of s es + uses_of s fs
+pub uses_of-append : (s : ℕ) (es fs : List CacheEntry) → uses_of s (es ++ fs) ≡ uses_of s es + uses_of s fs
 uses_of-append s [] fs = omega arith
 uses_of-append s (e ∷ es) fs = omega (arith, uses_of-append s es fs)
 
-found_is_used : (f : SignalCell → Bool) (es : List Entry) (slot : ℕ) (x : SignalCell) → find (λ (e : Entry). f e.1) es ≡ Some (slot, x) → 1 ≤ uses_of slot es
+found_is_used : (f : SignalCell → Bool) (es : List CacheEntry) (slot : ℕ) (x : SignalCell) → find (λ (e : CacheEntry). f e.1) es ≡ Some (slot, x) → 1 ≤ uses_of slot es
 found_is_used f [] slot x h = none_some (slot, x) h
 found_is_used f (e ∷ es) slot x h =
-    (elim (f e.1) as (λ b. cond b (Some e) (find (λ (d : Entry). f d.1) es) ≡ Some (slot, x) → 1 ≤ cond (nat_eq slot e.0) 1 0 + uses_of slot es) [
+    (elim (f e.1) as (λ b. cond b (Some e) (find (λ (d : CacheEntry). f d.1) es) ≡ Some (slot, x) → 1 ≤ cond (nat_eq slot e.0) 1 0 + uses_of slot es) [
       | true ↦ λ d.
-          let itself : nat_eq slot e.0 ≡ true = eq-eqb slot e.0 (ap (λ (c : Entry). c.0) (sym (some_same e (slot, x) d))) in
+          let itself : nat_eq slot e.0 ≡ true = eq-eqb slot e.0 (ap (λ (c : CacheEntry). c.0) (sym (some_same e (slot, x) d))) in
           subst (λ b. 1 ≤ cond b 1 0 + uses_of slot es) (sym itself) (omega arith)
       | false ↦ λ d. omega (arith, found_is_used f es slot x d)
     ]) h
 
-pub absent : (slot : ℕ) (es : List Entry) → uses_of slot es ≡ 0 → lookup_entry (nat_eq slot) es ≡ None
+pub absent : (slot : ℕ) (es : List CacheEntry) → uses_of slot es ≡ 0 → lookup_entry (nat_eq slot) es ≡ None
 absent slot [] h = refl
 absent slot (e ∷ es) h =
     (elim (nat_eq slot e.0) as (λ b. cond b 1 0 + uses_of slot es ≡ 0 → cond b (Some e) (lookup_entry (nat_eq slot) es) ≡ None) [
@@ -78,11 +78,11 @@ absent slot (e ∷ es) h =
     ]) h
 
 -- ---- the entry of a slot goes first
-pub record IsTaken (es : List Entry) (slot : ℕ) (x : SignalCell) : Type 0 where
+pub record IsTaken (es : List CacheEntry) (slot : ℕ) (x : SignalCell) : Type 0 where
   pub entry : lookup_entry (nat_eq slot) es ≡ Some (slot, x)
   pub rest : cells_of (remove_entry (nat_eq slot) es) ≡ filter (λ y. not (same_stored x y)) (cells_of es)
 
-taken_first : (es : List Entry) (slot : ℕ) (x : SignalCell) → IsSpan x.cell.span → All (IsApart x) (cells_of es) → IsTaken ((slot, x) ∷ es) slot x
+taken_first : (es : List CacheEntry) (slot : ℕ) (x : SignalCell) → IsSpan x.cell.span → All (IsApart x) (cells_of es) → IsTaken ((slot, x) ∷ es) slot x
 taken_first es slot x span apart =
     let others : List SignalCell = filter (λ y. not (same_stored x y)) (cells_of es) in
     let itself : nat_eq slot slot ≡ true = eq-eqb slot slot refl in
@@ -93,16 +93,16 @@ taken_first es slot x span apart =
           ∙ sym (ap (λ b. cond (not b) (x ∷ others) others) (same_stored-itself x));
     }
 
-pub taken : (es : List Entry) (f : SignalCell → Bool) (slot : ℕ) (x : SignalCell) → All (λ y. IsSpan y.cell.span) (cells_of es) → AreApart (cells_of es) → uses_of slot es ≤ 1
-    → find (λ (e : Entry). f e.1) es ≡ Some (slot, x) → IsTaken es slot x
+pub taken : (es : List CacheEntry) (f : SignalCell → Bool) (slot : ℕ) (x : SignalCell) → All (λ y. IsSpan y.cell.span) (cells_of es) → AreApart (cells_of es) → uses_of slot es ≤ 1
+    → find (λ (e : CacheEntry). f e.1) es ≡ Some (slot, x) → IsTaken es slot x
 taken [] f slot x spans apart once h = none_some (slot, x) h
 taken (d ∷ ds) f slot x spans apart once h =
     let others : List SignalCell = filter (λ y. not (same_stored x y)) (cells_of ds) in
-    (elim (f d.1) as (λ b. f d.1 ≡ b → cond b (Some d) (find (λ (e : Entry). f e.1) ds) ≡ Some (slot, x) → IsTaken (d ∷ ds) slot x) [
+    (elim (f d.1) as (λ b. f d.1 ≡ b → cond b (Some d) (find (λ (e : CacheEntry). f e.1) ds) ≡ Some (slot, x) → IsTaken (d ∷ ds) slot x) [
       | true ↦ λ t e.
           let is : d ≡ (slot, x) = some_same d (slot, x) e in
-          let at : d.1 ≡ x = ap (λ (c : Entry). c.1) is in
-          subst (λ (c : Entry). IsTaken (c ∷ ds) slot x) (sym is)
+          let at : d.1 ≡ x = ap (λ (c : CacheEntry). c.1) is in
+          subst (λ (c : CacheEntry). IsTaken (c ∷ ds) slot x) (sym is)
           (taken_first ds slot x (subst (λ (z : SignalCell). IsSpan z.cell.span) at (All-head (λ y. IsSpan y.cell.span) d.1 (cells_of ds) spans)) (subst (λ (z : SignalCell). All (IsApart z) (cells_of ds)) at apart.0))
       | false ↦ λ t e.
           let there : 1 ≤ uses_of slot ds = found_is_used f ds slot x e in
@@ -110,7 +110,7 @@ taken (d ∷ ds) f slot x spans apart once h =
           (elim (nat_eq slot d.0) as (λ b. cond b 1 0 + uses_of slot ds ≤ 1 → b ≡ false) [ true ↦ λ o. absurd (omega arith) | false ↦ λ o. refl ]) once in
           let few : uses_of slot ds ≤ 1 = omega (arith, once) in
           let on : IsTaken ds slot x = taken ds f slot x (All-tail (λ y. IsSpan y.cell.span) d.1 (cells_of ds) spans) apart.1 few e in
-          let differs : same_stored x d.1 ≡ false = told_apart f x d.1 (found_true (λ (c : Entry). f c.1) ds (slot, x) e) t in
+          let differs : same_stored x d.1 ≡ false = told_apart f x d.1 (found_true (λ (c : CacheEntry). f c.1) ds (slot, x) e) t in
           record {
             entry = ap (λ b. cond b (Some d) (lookup_entry (nat_eq slot) ds)) other ∙ on.entry;
             rest = ap (λ b. cells_of (cond b ds (d ∷ remove_entry (nat_eq slot) ds))) other ∙ ap (λ (l : List SignalCell). d.1 ∷ l) on.rest
@@ -118,7 +118,7 @@ taken (d ∷ ds) f slot x spans apart once h =
           }
     ]) refl h
 
-pub All-remove_entry : (P : Entry → Type 0) (test : ℕ → Bool) (es : List Entry) → All P es → All P (remove_entry test es)
+pub All-remove_entry : (P : CacheEntry → Type 0) (test : ℕ → Bool) (es : List CacheEntry) → All P es → All P (remove_entry test es)
 All-remove_entry P test [] all = all
 All-remove_entry P test (e ∷ es) all =
     elim (test e.0) as (λ b. All P (cond b es (e ∷ remove_entry test es))) [
@@ -127,33 +127,33 @@ All-remove_entry P test (e ∷ es) all =
     ]
 
 -- the same slots, and as many
-pub record IsMoved (es fs : List Entry) : Type 0 where
+pub record IsMoved (es fs : List CacheEntry) : Type 0 where
   pub uses : (s : ℕ) → uses_of s fs ≡ uses_of s es
   pub many : length fs ≡ length es
 
-pub moved : (test : ℕ → Bool) (es : List Entry) (e : Entry) → lookup_entry test es ≡ Some e → IsMoved es (e ∷ remove_entry test es)
+pub moved : (test : ℕ → Bool) (es : List CacheEntry) (e : CacheEntry) → lookup_entry test es ≡ Some e → IsMoved es (e ∷ remove_entry test es)
 moved test [] e h = none_some e h
 moved test (d ∷ ds) e h =
     (elim (test d.0) as (λ b. cond b (Some d) (lookup_entry test ds) ≡ Some e → IsMoved (d ∷ ds) (e ∷ cond b ds (d ∷ remove_entry test ds))) [
-      | true ↦ λ t. subst (λ (c : Entry). IsMoved (c ∷ ds) (e ∷ ds)) (sym (some_same d e t)) (record { uses = λ s. refl; many = refl })
+      | true ↦ λ t. subst (λ (c : CacheEntry). IsMoved (c ∷ ds) (e ∷ ds)) (sym (some_same d e t)) (record { uses = λ s. refl; many = refl })
       | false ↦ λ t.
           let on : IsMoved ds (e ∷ remove_entry test ds) = moved test ds e t in
           record { uses = λ s. omega (arith, on.uses s); many = omega (arith, on.many) }
     ]) h
 
 -- slots stay slots where each stays in as many places
-pub same_slots : (es fs : List Entry) (was free : List ℕ) → ((s : ℕ) → places_of s fs free ≡ places_of s es was) → length fs + length free ≡ length es + length was → AreSlots es was → AreSlots fs free
+pub same_slots : (es fs : List CacheEntry) (was free : List ℕ) → ((s : ℕ) → places_of s fs free ≡ places_of s es was) → length fs + length free ≡ length es + length was → AreSlots es was → AreSlots fs free
 same_slots es fs was free same many slots = record {
   once = λ s. omega (arith, same s, slots.once s);
   first = λ s low. omega (arith, same s, slots.first s (omega arith));
 }
 
 -- ---- the last entry
-pub record IsAtEnd (es : List Entry) (slot : ℕ) (y : SignalCell) : Type 0 where
+pub record IsAtEnd (es : List CacheEntry) (slot : ℕ) (y : SignalCell) : Type 0 where
   pub entry : lookup_entry (nat_eq slot) (es ++ (slot, y) ∷ []) ≡ Some (slot, y)
   pub rest : remove_entry (nat_eq slot) (es ++ (slot, y) ∷ []) ≡ es
 
-pub at_end : (es : List Entry) (slot : ℕ) (y : SignalCell) → uses_of slot es ≡ 0 → IsAtEnd es slot y
+pub at_end : (es : List CacheEntry) (slot : ℕ) (y : SignalCell) → uses_of slot es ≡ 0 → IsAtEnd es slot y
 at_end [] slot y h =
     let itself : nat_eq slot slot ≡ true = eq-eqb slot slot refl in
     record {
@@ -166,21 +166,21 @@ at_end (e ∷ es) slot y h =
     let on : IsAtEnd es slot y = at_end es slot y none in
     record {
       entry = ap (λ b. cond b (Some e) (lookup_entry (nat_eq slot) (es ++ (slot, y) ∷ []))) other ∙ on.entry;
-      rest = ap (λ b. cond b (es ++ (slot, y) ∷ []) (e ∷ remove_entry (nat_eq slot) (es ++ (slot, y) ∷ []))) other ∙ ap (λ (l : List Entry). e ∷ l) on.rest;
+      rest = ap (λ b. cond b (es ++ (slot, y) ∷ []) (e ∷ remove_entry (nat_eq slot) (es ++ (slot, y) ∷ []))) other ∙ ap (λ (l : List CacheEntry). e ∷ l) on.rest;
     }
 
 -- ---- the slot of a new cell
-abbrev pub new_slot : List Entry → List ℕ → ℕ
+abbrev pub new_slot : List CacheEntry → List ℕ → ℕ
 new_slot es free = unwrap_or (slice_get free (length free - 1)) (length es)
 
 abbrev pub still_free : List ℕ → List ℕ
 still_free free = take (length free - 1) free
 
-pub record IsFresh (es : List Entry) (free : List ℕ) (slot : ℕ) (x : SignalCell) : Type 0 where
+pub record IsFresh (es : List CacheEntry) (free : List ℕ) (slot : ℕ) (x : SignalCell) : Type 0 where
   pub unused : uses_of slot es ≡ 0
   pub slots : AreSlots ((slot, x) ∷ es) (still_free free)
 
-fresh_past : (es : List Entry) (x : SignalCell) → AreSlots es [] → IsFresh es [] (length es) x
+fresh_past : (es : List CacheEntry) (x : SignalCell) → AreSlots es [] → IsFresh es [] (length es) x
 fresh_past es x slots =
     let none : uses_of (length es) es ≡ 0 = omega (arith, slots.first (length es) (omega arith)) in
     record {
@@ -199,7 +199,7 @@ fresh_past es x slots =
       };
     }
 
-fresh_freed : (es : List Entry) (init : List ℕ) (slot : ℕ) (x : SignalCell) → AreSlots es (init ++ slot ∷ []) → (uses_of slot es ≡ 0) × AreSlots ((slot, x) ∷ es) init
+fresh_freed : (es : List CacheEntry) (init : List ℕ) (slot : ℕ) (x : SignalCell) → AreSlots es (init ++ slot ∷ []) → (uses_of slot es ≡ 0) × AreSlots ((slot, x) ∷ es) init
 fresh_freed es init slot x slots =
     let itself : nat_eq slot slot ≡ true = eq-eqb slot slot refl in
     let one : times slot (slot ∷ []) ≡ 1 = ap (λ b. cond b 1 0 + 0) itself in (
@@ -207,7 +207,7 @@ fresh_freed es init slot x slots =
       same_slots es ((slot, x) ∷ es) (init ++ slot ∷ []) init (λ s. omega (arith, times-append s init (slot ∷ []))) (omega (arith, length-append init (slot ∷ []))) slots,
     )
 
-pub fresh : (es : List Entry) (free : List ℕ) (x : SignalCell) → AreSlots es free → IsFresh es free (new_slot es free) x
+pub fresh : (es : List CacheEntry) (free : List ℕ) (x : SignalCell) → AreSlots es free → IsFresh es free (new_slot es free) x
 fresh es [] x slots = fresh_past es x slots
 fresh es (y ∷ ys) x slots =
     let free : List ℕ = y ∷ ys in

@@ -12,23 +12,23 @@ use Rattle.cell_store.proofs.Same.{same_stored-itself}
 use Rattle.cell_store.proofs.Keys.{covers_true}
 use Rattle.cell_store.proofs.Found.{some_same, none_some}
 use Rattle.cell_store.proofs.Cached.{all_kept, all_differ}
-use Rattle.cell_store.proofs.Entries.{Entry}
+use Rattle.cell_store.proofs.Entries.{CacheEntry}
 
-in_front : (e : Entry) (es : List Entry) (p : Point) (cell : Cell) → IsInFront (e ∷ es) p cell → e.1 ≡ cell_for p cell
+in_front : (e : CacheEntry) (es : List CacheEntry) (p : Point) (cell : Cell) → IsInFront (e ∷ es) p cell → e.1 ≡ cell_for p cell
 in_front e es p cell f =
-    ap (λ (d : Entry). d.1) (some_same e (f.slot, f.x) f.front)
+    ap (λ (d : CacheEntry). d.1) (some_same e (f.slot, f.x) f.front)
     ∙ ap (λ (s : ℕ). record { signal = s; cell = f.x.cell }) (covers_true p f.x f.covering).signal
     ∙ ap (cell_for p) (sym f.is)
 
 -- it is what a search finds
-pub front_found : (entries : List Entry) (p : Point) (cell : Cell) → IsInFront entries p cell → stored_at (cells_of entries) p ≡ Some (cell_for p cell)
+pub front_found : (entries : List CacheEntry) (p : Point) (cell : Cell) → IsInFront entries p cell → stored_at (cells_of entries) p ≡ Some (cell_for p cell)
 front_found [] p cell f = none_some (f.slot, f.x) f.front
 front_found (e ∷ es) p cell f =
-    let there : covers p e.1 ≡ true = subst (λ (d : Entry). covers p d.1 ≡ true) (sym (some_same e (f.slot, f.x) f.front)) f.covering in
+    let there : covers p e.1 ≡ true = subst (λ (d : CacheEntry). covers p d.1 ≡ true) (sym (some_same e (f.slot, f.x) f.front)) f.covering in
     ap (λ b. cond b (Some e.1) (find (covers p) (cells_of es))) there ∙ ap (λ (x : SignalCell). Some x) (in_front e es p cell f)
 
 -- and to use it changes nothing
-pub front_stays : (end_of : Key → Option ℕ) (entries : List Entry) (p : Point) (cell : Cell) → IsStoreIndex end_of (cells_of entries) → IsInFront entries p cell
+pub front_stays : (end_of : Key → Option ℕ) (entries : List CacheEntry) (p : Point) (cell : Cell) → IsStoreIndex end_of (cells_of entries) → IsInFront entries p cell
     → to_front (cell_for p cell) (cells_of entries) ≡ cells_of entries
 front_stays end_of [] p cell index f = none_some (f.slot, f.x) f.front
 front_stays end_of (e ∷ es) p cell index f =

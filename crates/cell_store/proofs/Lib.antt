@@ -5,14 +5,12 @@ pub mod Cached
 pub mod Entries
 pub mod Uses
 pub mod Celled
-pub mod Kept
+pub mod StoreIndex
 pub mod Placed
 pub mod Calls
 pub mod Puts
 pub mod Trims
 pub mod Front
-pub mod Plain
-pub mod Beside
 pub mod Links
 pub mod Lists
 pub mod Listed

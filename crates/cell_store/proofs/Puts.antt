@@ -15,7 +15,7 @@ use Rattle.cell_store.specs.Recency.{Contents, contents, with_cells, key_of, las
 use Rattle.cell_store.specs.inner.Index.{key_cmp, has_key, place_at, cells_of, IsSoundStore}
 use Rattle.cell_store.proofs.Found.{some_same, none_some}
 use Rattle.cell_store.proofs.Cached.{all_kept, all_differ, found_if_stored, not_stored, all_apart}
-use Rattle.cell_store.proofs.Entries.{Entry, past_end, length-cells_of, absent, fresh, new_slot, still_free}
+use Rattle.cell_store.proofs.Entries.{CacheEntry, past_end, length-cells_of, absent, fresh, new_slot, still_free}
 use Rattle.cell_store.proofs.Placed.{IsLocated, located, same_slot, no_cell}
 use Rattle.cell_store.proofs.Calls.{last_below, new_below, IsUsed, is_used, same_sound, HasCome, has_come, IsLast, is_last, last_at, HasReplaced, has_replaced}
 
@@ -28,11 +28,11 @@ pub went_at : (g h : Key → Option Place) (k : Key) (x : SignalCell) → k ≡ 
 went_at g h k x key went q = went q ∙ ap (λ (j : Key). cond (is_eq (key_cmp j q)) None (g q)) key
 
 -- the cell was stored, and is used
-pub record IsStored (place_of : Key → Option Place) (entries : List Entry) (free : List ℕ) (capacity slot : ℕ) (x : SignalCell) : Type 0 where
+pub record IsStored (place_of : Key → Option Place) (entries : List CacheEntry) (free : List ℕ) (capacity slot : ℕ) (x : SignalCell) : Type 0 where
   pub stored : is_stored x (cells_of entries) ≡ true
   pub used : IsUsed place_of entries free capacity slot x
 
-module _ (place_of : Key → Option Place) (entries : List Entry) (free : List ℕ) (capacity : ℕ) (x : SignalCell) (sound : IsSoundStore place_of entries free capacity) (span : IsSpan x.cell.span) (fits : FitsStore x (cells_of entries)) where
+module _ (place_of : Key → Option Place) (entries : List CacheEntry) (free : List ℕ) (capacity : ℕ) (x : SignalCell) (sound : IsSoundStore place_of entries free capacity) (span : IsSpan x.cell.span) (fits : FitsStore x (cells_of entries)) where
   stored_at_place : (p : Place) → place_of (key_of x) ≡ Some p → IsStored place_of entries free capacity p.slot x
   stored_at_place p at =
       (elim (find (has_key (key_of x)) (cells_of entries)) as (λ o. find (has_key (key_of x)) (cells_of entries) ≡ o → option_map (λ (z : SignalCell). z.cell.span.stop) o ≡ Some p.end → IsStored place_of entries free capacity p.slot x) [
@@ -85,10 +85,10 @@ module _ (s : Contents) (x : SignalCell) where
       ∙ sym (after_as true (goes_out new full))
 
 -- ---- the cell that goes
-abbrev slot_and_key : Entry → ℕ × Key
+abbrev slot_and_key : CacheEntry → ℕ × Key
 slot_and_key e = (e.0, key_of e.1)
 
-abbrev pub last_if_full : List Entry → ℕ → Option (ℕ × Key)
+abbrev pub last_if_full : List CacheEntry → ℕ → Option (ℕ × Key)
 last_if_full entries capacity = cond (nat_lt (length entries) capacity) None (option_map slot_and_key (last_entry entries))
 
 is_none : {X Y : Type 0} (f : X → Y) (o : Option X) → None ≡ option_map f o → o ≡ None
@@ -96,20 +96,20 @@ is_none f None h = refl
 is_none f (Some x) h = none_some (f x) h
 
 -- where none goes, there is room
-room_left : (entries : List Entry) (capacity : ℕ) → 0 < capacity → None ≡ last_if_full entries capacity → length entries < capacity
+room_left : (entries : List CacheEntry) (capacity : ℕ) → 0 < capacity → None ≡ last_if_full entries capacity → length entries < capacity
 room_left entries capacity some h =
     (elim (nat_lt (length entries) capacity) as (λ b. nat_lt (length entries) capacity ≡ b → None ≡ cond b None (option_map slot_and_key (last_entry entries)) → length entries < capacity) [
       | true ↦ λ t d. ltb-true (length entries) capacity t
       | false ↦ λ t d. omega (arith, some, past_end entries (length entries - 1) (is_none slot_and_key (last_entry entries) d))
     ]) refl h
 
-record IsFullLast (entries : List Entry) (capacity slot : ℕ) (k : Key) : Type 0 where
+record IsFullLast (entries : List CacheEntry) (capacity slot : ℕ) (k : Key) : Type 0 where
   pub y : SignalCell
   pub entry : last_entry entries ≡ Some (slot, y)
   pub key : k ≡ key_of y
   pub full : capacity ≤ length entries
 
-full_last : (entries : List Entry) (capacity slot : ℕ) (k : Key) → Some (slot, k) ≡ last_if_full entries capacity → IsFullLast entries capacity slot k
+full_last : (entries : List CacheEntry) (capacity slot : ℕ) (k : Key) → Some (slot, k) ≡ last_if_full entries capacity → IsFullLast entries capacity slot k
 full_last entries capacity slot k h =
     (elim (nat_lt (length entries) capacity) as (λ b. nat_lt (length entries) capacity ≡ b → Some (slot, k) ≡ cond b None (option_map slot_and_key (last_entry entries)) → IsFullLast entries capacity slot k) [
       | true ↦ λ t d. none_some (slot, k) (sym d)
@@ -128,19 +128,19 @@ full_last entries capacity slot k h =
     ]) refl h
 
 -- the slot of a new cell is below the capacity
-pub below : (f : Key → Option Place) (entries : List Entry) (free : List ℕ) (capacity : ℕ) (last : Option (ℕ × Key)) → IsSoundStore f entries free capacity → last ≡ last_if_full entries capacity
+pub below : (f : Key → Option Place) (entries : List CacheEntry) (free : List ℕ) (capacity : ℕ) (last : Option (ℕ × Key)) → IsSoundStore f entries free capacity → last ≡ last_if_full entries capacity
     → unwrap_or (option_map (λ e. e.0) last) (new_slot entries free) < capacity
 below f entries free capacity None sound h = new_below f entries free capacity sound (room_left entries capacity sound.some h)
 below f entries free capacity (Some e) sound h = let end : IsFullLast entries capacity e.0 e.1 = full_last entries capacity e.0 e.1 h in last_below f entries free capacity e.0 end.y sound end.entry
 
 -- the slot of a new cell is empty where there is room
-pub slot_empty : (f : Key → Option Place) (entries : List Entry) (free : List ℕ) (capacity slot : ℕ) (last : Option (ℕ × Key)) → IsSoundStore f entries free capacity → last ≡ last_if_full entries capacity
+pub slot_empty : (f : Key → Option Place) (entries : List CacheEntry) (free : List ℕ) (capacity slot : ℕ) (last : Option (ℕ × Key)) → IsSoundStore f entries free capacity → last ≡ last_if_full entries capacity
     → slot ≡ unwrap_or (option_map (λ e. e.0) last) (new_slot entries free) → SignalCell → length entries < capacity → lookup_entry (nat_eq slot) entries ≡ None
 slot_empty f entries free capacity slot None sound h is x room = subst (λ (n : ℕ). lookup_entry (nat_eq n) entries ≡ None) (sym is) (absent (new_slot entries free) entries (fresh entries free x sound.slots).unused)
 slot_empty f entries free capacity slot (Some e) sound h is x room = let end : IsFullLast entries capacity e.0 e.1 = full_last entries capacity e.0 e.1 h in absurd (omega (arith, end.full))
 
 -- and else it is that of the last cell
-pub slot_held : (f : Key → Option Place) (entries : List Entry) (free : List ℕ) (capacity slot : ℕ) (last : Option (ℕ × Key)) → IsSoundStore f entries free capacity → last ≡ last_if_full entries capacity
+pub slot_held : (f : Key → Option Place) (entries : List CacheEntry) (free : List ℕ) (capacity slot : ℕ) (last : Option (ℕ × Key)) → IsSoundStore f entries free capacity → last ≡ last_if_full entries capacity
     → slot ≡ unwrap_or (option_map (λ e. e.0) last) (new_slot entries free) → capacity ≤ length entries → IsSome (lookup_entry (nat_eq slot) entries)
 slot_held f entries free capacity slot None sound h is full = absurd (omega (arith, room_left entries capacity sound.some h))
 slot_held f entries free capacity slot (Some e) sound h is full =
@@ -149,7 +149,7 @@ slot_held f entries free capacity slot (Some e) sound h is full =
     let there : lookup_entry (nat_eq e.0) entries ≡ Some (e.0, end.y) = ap (lookup_entry (nat_eq e.0)) l.split ∙ (last_at f entries free capacity e.0 end.y sound l).entry in
     subst (λ (n : ℕ). IsSome (lookup_entry (nat_eq n) entries)) (sym is) (subst IsSome (sym there) refl)
 
-pub at_slot : (slot given : ℕ) (k : Key) (entries : List Entry) (capacity : ℕ) → slot ≡ given → Some (given, k) ≡ last_if_full entries capacity → Some (slot, k) ≡ last_if_full entries capacity
+pub at_slot : (slot given : ℕ) (k : Key) (entries : List CacheEntry) (capacity : ℕ) → slot ≡ given → Some (given, k) ≡ last_if_full entries capacity → Some (slot, k) ≡ last_if_full entries capacity
 at_slot slot given k entries capacity is h = subst (λ (n : ℕ). Some (n, k) ≡ last_if_full entries capacity) (sym is) h
 
 -- ---- what a put leaves and returns
@@ -206,11 +206,11 @@ module _ (f : Key → Option Place) (cache : LruCache ℕ SignalCell) (free : Li
       let short : length s.cells < s.capacity = subst (λ (t : Contents). length t.cells < t.capacity) view room in
       let come : HasCome g cache.entries free cache.cap slot x = has_come f g cache.entries free cache.cap slot x sound span (new_inside none).1 room at (came_at f g k p slot x key place came) in
       record {
-        first = ap (λ (l : LruCache ℕ SignalCell). slice_get l.entries 0) is ∙ ap (λ (es : List Entry). slice_get es 0) come.list;
+        first = ap (λ (l : LruCache ℕ SignalCell). slice_get l.entries 0) is ∙ ap (λ (es : List CacheEntry). slice_get es 0) come.list;
         sound = subst (λ (l : LruCache ℕ SignalCell). IsSoundStore g l.entries left l.cap) (sym is)
-            (subst (λ (es : List Entry). IsSoundStore g es left cache.cap) (sym come.list)
+            (subst (λ (es : List CacheEntry). IsSoundStore g es left cache.cap) (sym come.list)
             (subst (λ (slots : List ℕ). IsSoundStore g ((slot, x) ∷ cache.entries) slots cache.cap) (sym off) come.sound));
-        cells = ap (λ (l : LruCache ℕ SignalCell). contents l.cap (cells_of l.entries)) is ∙ ap (λ (es : List Entry). contents cache.cap (cells_of es)) come.list
+        cells = ap (λ (l : LruCache ℕ SignalCell). contents l.cap (cells_of l.entries)) is ∙ ap (λ (es : List CacheEntry). contents cache.cap (cells_of es)) come.list
             ∙ ap (λ (t : Contents). with_cells t (x ∷ t.cells)) view ∙ come_shows s x span new.1 new.0 short;
         is_fresh = sym (ap not new.0);
         is_evicted = sym (ap (λ b. cond b (last_key s.cells) None) (has_room s x new.0 short));
@@ -227,9 +227,9 @@ module _ (f : Key → Option Place) (cache : LruCache ℕ SignalCell) (free : Li
       let replaced : HasReplaced h cache.entries free cache.cap slot x =
       has_replaced f g h cache.entries free cache.cap slot x end.y sound span (new_inside none).1 end.entry (came_at f g k p slot x key place came) (went_at g h gone end.y end.key went) in
       record {
-        first = ap (λ (l : LruCache ℕ SignalCell). slice_get l.entries 0) is ∙ ap (λ (es : List Entry). slice_get es 0) replaced.list;
-        sound = subst (λ (l : LruCache ℕ SignalCell). IsSoundStore h l.entries free l.cap) (sym is) (subst (λ (es : List Entry). IsSoundStore h es free cache.cap) (sym replaced.list) replaced.sound);
-        cells = ap (λ (l : LruCache ℕ SignalCell). contents l.cap (cells_of l.entries)) is ∙ ap (λ (es : List Entry). contents cache.cap (cells_of es)) replaced.list ∙ ap (contents cache.cap) replaced.cells
+        first = ap (λ (l : LruCache ℕ SignalCell). slice_get l.entries 0) is ∙ ap (λ (es : List CacheEntry). slice_get es 0) replaced.list;
+        sound = subst (λ (l : LruCache ℕ SignalCell). IsSoundStore h l.entries free l.cap) (sym is) (subst (λ (es : List CacheEntry). IsSoundStore h es free cache.cap) (sym replaced.list) replaced.sound);
+        cells = ap (λ (l : LruCache ℕ SignalCell). contents l.cap (cells_of l.entries)) is ∙ ap (λ (es : List CacheEntry). contents cache.cap (cells_of es)) replaced.list ∙ ap (contents cache.cap) replaced.cells
             ∙ ap (λ (t : Contents). with_cells t (x ∷ all_but_last t.cells)) view ∙ replaced_shows s x span new.1 new.0 full;
         is_fresh = sym (ap not new.0);
         is_evicted = ap (λ (j : Key). Some j) end.key ∙ sym (is_last cache.entries slot end.y end.entry).key ∙ ap (λ (t : Contents). last_key t.cells) view

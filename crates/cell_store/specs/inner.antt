@@ -1,4 +1,3 @@
-pub mod Beside
 pub mod Index
 pub mod Heads
 pub mod Lists

@@ -141,7 +141,7 @@ impl RecentCells {
 fn place(cells: &mut Vec<SignalCell>, slot: u32, x: &SignalCell) -> Result<(), OutOfMemory>
     ensures here { OnOk result (cell_in cells.new.items slot ≡ x.now) }
     ensures others { (other : ℕ) → other < length cells.old.items → nat_eq slot other ≡ false → cell_in cells.new.items other ≡ cell_in cells.old.items other }
-    ensures kept { OnErr result (cells.new.items ≡ cells.old.items) }
+    ensures cells_stay { OnErr result (cells.new.items ≡ cells.old.items) }
     ensures more { length cells.old.items ≤ length cells.new.items }
     ensures room { OnOk result (slot < length cells.new.items) }
 {

@@ -264,8 +264,3 @@ fn cell_place(x: &SignalCell, slot: u32) -> Place
         value: x.cell.value,
     }
 }
-
-#[cfg(test)]
-mod plain;
-#[cfg(test)]
-mod tests;

@@ -31,8 +31,6 @@
 mod reading;
 mod refusal;
 mod stop;
-#[cfg(test)]
-mod tests;
 
 pub use reading::read_design;
 pub use refusal::{CircuitFile, FileRefusal};

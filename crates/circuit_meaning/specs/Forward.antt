@@ -11,13 +11,13 @@ use Rattle.circuit_meaning.specs.declared.Run.{Run}
 use Rattle.flip_flops.specs.Edges.{shown_edge}
 
 -- one more row, made from the rows so far
-abbrev pub one_more : {A : Type 0} → (List A → A) → List A → List A
-one_more next rows = rows ++ next rows ∷ []
+abbrev pub with_next_row : {A : Type 0} → (List A → A) → List A → List A
+with_next_row next rows = rows ++ next rows ∷ []
 
 -- the rows for the times below t, each made from the earlier rows
 unfoldable pub rows_below : {A : Type 0} → (List A → A) → ℕ → List A
 rows_below next zero = []
-rows_below next (suc t) = one_more next (rows_below next t)
+rows_below next (suc t) = with_next_row next (rows_below next t)
 
 -- the row for the time t
 unfoldable pub row_at : {A : Type 0} → (List A → A) → ℕ → A

@@ -14,7 +14,7 @@ use Rattle.std.proofs.lemmas.Map.Keys.{sorted_head, sorted_tail}
 use Rattle.valid_intervals.specs.declared.Point.{Point}
 use Rattle.valid_intervals.specs.Cells.{point_cmp}
 use Rattle.claim_waiters.specs.Claims.{WaitedClaim, Claims, IsAtMost, claim_at, holder_in, waiters_of, first_of, with_claim, without_claim, with_waiter}
-use Rattle.claim_waiters.specs.inner.View.{at, claims_with, those_in, IsKept}
+use Rattle.claim_waiters.specs.inner.View.{at, claims_with, those_in, IsClaimTable}
 use Rattle.claim_waiters.proofs.Tables.{at-is, at-same, at-inserted, same-itself, put-back}
 
 -- no point of a list is p
@@ -171,8 +171,8 @@ module _ {W R : Type 0} (items : R → List W) where
 
 module _ {R : Type 0} where
   -- each room still belongs to a claim
-  pub kept-claimed : (holders new : List (Point × ℕ)) (rooms : List (Point × R)) (p : Point) (q : ℕ) → IsStrictlySortedBy point_cmp (keys_of new) → IsSetAt holders new p (Some q) → IsKept holders rooms → IsKept new rooms
-  kept-claimed holders new rooms p q order set kept = (
+  pub table-claimed : (holders new : List (Point × ℕ)) (rooms : List (Point × R)) (p : Point) (q : ℕ) → IsStrictlySortedBy point_cmp (keys_of new) → IsSetAt holders new p (Some q) → IsClaimTable holders rooms → IsClaimTable new rooms
+  table-claimed holders new rooms p q order set kept = (
     order,
     λ x some. subst IsSome (sym (set x)) (elim (cases_Bool (is_at (point_cmp p) x)) [
       | inl h ↦ rw h refl
@@ -180,9 +180,9 @@ module _ {R : Type 0} where
     ]),
   )
 
-  pub kept-waited : (holders : List (Point × ℕ)) (rooms new made : List (Point × R)) (p : Point) (room : R) → new ≡ made → IsSetAt rooms made p (Some room) → IsSome (at holders p) → IsKept holders rooms
-      → IsKept holders new
-  kept-waited holders rooms new made p room is set claimed kept = (
+  pub table-waited : (holders : List (Point × ℕ)) (rooms new made : List (Point × R)) (p : Point) (room : R) → new ≡ made → IsSetAt rooms made p (Some room) → IsSome (at holders p) → IsClaimTable holders rooms
+      → IsClaimTable holders new
+  table-waited holders rooms new made p room is set claimed kept = (
     kept.0,
     λ x some. elim (cases_Bool (is_at (point_cmp p) x)) [
       | inl h ↦ subst (λ z. IsSome (at holders z)) (sym (at-is p x h)) claimed
@@ -190,8 +190,8 @@ module _ {R : Type 0} where
     ],
   )
 
-  pub kept-taken : (holders left : List (Point × ℕ)) (rooms new : List (Point × R)) (p : Point) → IsStrictlySortedBy point_cmp (keys_of left) → IsSetAt holders left p None → IsSetAt rooms new p None → IsKept holders rooms → IsKept left new
-  kept-taken holders left rooms new p order left_set set kept = (
+  pub table-taken : (holders left : List (Point × ℕ)) (rooms new : List (Point × R)) (p : Point) → IsStrictlySortedBy point_cmp (keys_of left) → IsSetAt holders left p None → IsSetAt rooms new p None → IsClaimTable holders rooms → IsClaimTable left new
+  table-taken holders left rooms new p order left_set set kept = (
     order,
     λ x some. subst IsSome (sym (left_set x)) (elim (cases_Bool (is_at (point_cmp p) x)) [
       | inl h ↦ rw h (subst IsSome (set x ∙ ap (λ b. cond b None (at rooms x)) h) some)
@@ -200,7 +200,7 @@ module _ {R : Type 0} where
   )
 
   -- where no point is claimed none has a room
-  pub unclaimed-none : (holders : List (Point × ℕ)) (rooms : List (Point × R)) (p : Point) → IsKept holders rooms → at holders p ≡ None → at rooms p ≡ None
+  pub unclaimed-none : (holders : List (Point × ℕ)) (rooms : List (Point × R)) (p : Point) → IsClaimTable holders rooms → at holders p ≡ None → at rooms p ≡ None
   unclaimed-none holders rooms p kept none = by (at rooms p) (kept.1 p)
     where
       by : (o : Option R) → (IsSome o → IsSome (at holders p)) → o ≡ None
@@ -209,12 +209,12 @@ module _ {R : Type 0} where
 
 -- what a claim leaves, whether the point was free or not
 module _ {E : Type 0} (holders new : List (Point × ℕ)) (p : Point) (q : ℕ) where
-  pub kept-by-claim : {R : Type 0} (rooms : List (Point × R)) (r : Result Bool E) → IsStrictlySortedBy point_cmp (keys_of new) → IfOk r (λ free. IsTrue free ↔ (at holders p ≡ None)) → IfOk r (λ free. OnTrue free (new ≡ insert_entry point_cmp holders p q))
-      → IfOk r (λ free. OnFalse free (new ≡ holders)) → OnErr r (new ≡ holders) → IsKept holders rooms → IsKept new rooms
-  kept-by-claim rooms (Ok true) order free claimed taken err kept =
-      kept-claimed holders new rooms p q order (λ x. ap (λ es. at es x) claimed ∙ at-inserted holders p q x (free.0 refl) ∙ ap (λ b. cond b (Some q) (at holders x)) (sym (at-same p x))) kept
-  kept-by-claim rooms (Ok false) order free claimed taken err kept = subst (λ es. IsKept es rooms) (sym taken) kept
-  kept-by-claim rooms (Err e) order free claimed taken err kept = subst (λ es. IsKept es rooms) (sym err) kept
+  pub table-by-claim : {R : Type 0} (rooms : List (Point × R)) (r : Result Bool E) → IsStrictlySortedBy point_cmp (keys_of new) → IfOk r (λ free. IsTrue free ↔ (at holders p ≡ None)) → IfOk r (λ free. OnTrue free (new ≡ insert_entry point_cmp holders p q))
+      → IfOk r (λ free. OnFalse free (new ≡ holders)) → OnErr r (new ≡ holders) → IsClaimTable holders rooms → IsClaimTable new rooms
+  table-by-claim rooms (Ok true) order free claimed taken err kept =
+      table-claimed holders new rooms p q order (λ x. ap (λ es. at es x) claimed ∙ at-inserted holders p q x (free.0 refl) ∙ ap (λ b. cond b (Some q) (at holders x)) (sym (at-same p x))) kept
+  table-by-claim rooms (Ok false) order free claimed taken err kept = subst (λ es. IsClaimTable es rooms) (sym taken) kept
+  table-by-claim rooms (Err e) order free claimed taken err kept = subst (λ es. IsClaimTable es rooms) (sym err) kept
 
   pub once-claimed : {Goal : Type 0} (r : Result Bool E) → IfOk r (λ free. IsTrue free ↔ (at holders p ≡ None)) → IfOk r (λ free. OnTrue free (new ≡ insert_entry point_cmp holders p q))
       → (at holders p ≡ None → new ≡ insert_entry point_cmp holders p q → Goal) → IfOk r (λ free. OnTrue free Goal)

@@ -27,8 +27,6 @@
 
 mod holders;
 mod table;
-#[cfg(test)]
-mod tests;
 mod waiter;
 
 pub use table::ClaimTable;

@@ -25,11 +25,11 @@ impl<W: Waiter> Model for ClaimTable<W> {
 
     ghost Value = { Claims W };
 
-    ghost use Rattle.claim_waiters.specs.inner.View.{claims_of, IsKept};
+    ghost use Rattle.claim_waiters.specs.inner.View.{claims_of, IsClaimTable};
 
     ghost view = { λ t. claims_of W.items t.holders t.rooms.entries };
 
-    ghost invariant = { λ t. IsKept t.holders t.rooms.entries };
+    ghost invariant = { λ t. IsClaimTable t.holders t.rooms.entries };
 }
 
 impl<W: Waiter> ClaimTable<W> {

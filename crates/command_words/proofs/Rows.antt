@@ -133,8 +133,8 @@ pub shows_value : (key : Key) (v : Text) (said : Said) (rows : List Row) → Sho
     → Shows (with_at key v said) (used (rule_at key) (v ∷ []) rows)
 shows_value key v said rows shows none = (each, names)
   where
-    kept : without (id_of key) rows ≡ rows
-    kept = without_none (id_of key) rows none
+    rows_stay : without (id_of key) rows ≡ rows
+    rows_stay = without_none (id_of key) rows none
 
     empty : (o : Option (List Text)) → is_some o ≡ false → unwrap_or o [] ≡ []
     empty None e = refl
@@ -145,17 +145,17 @@ shows_value key v said rows shows none = (each, names)
         let is = key_is key k e in
         let nothing = empty (all_of (id_of key) rows) (sym (has_all (id_of key) rows) ∙ none) in
         let now : all_of (id_of key) (used (rule_at key) (v ∷ []) rows) ≡ Some (v ∷ []) =
-        rw kept (with_same (id_of key) _ _ (v ∷ []) rows ∙ ap (λ xs. Some (xs ++ v ∷ [])) nothing) in
+        rw rows_stay (with_same (id_of key) _ _ (v ∷ []) rows ∙ ap (λ xs. Some (xs ++ v ∷ [])) nothing) in
         subst (λ j. all_of (id_of j) (used (rule_at key) (v ∷ []) rows) ≡ option_map (λ w. w ∷ []) (value_at j (with_at key v said))) is
         (now ∙ ap (option_map (λ w. w ∷ [])) (sym (at_same key v said)))
     at k false e =
-        rw kept (with_other (id_of key) (id_of k) _ _ (v ∷ []) rows e ∙ (shows.0 k ∙ ap (option_map (λ w. w ∷ [])) (sym (at_other key k v said e))))
+        rw rows_stay (with_other (id_of key) (id_of k) _ _ (v ∷ []) rows e ∙ (shows.0 k ∙ ap (option_map (λ w. w ∷ [])) (sym (at_other key k v said e))))
 
     each : (k : Key) → all_of (id_of k) (used (rule_at key) (v ∷ []) rows) ≡ option_map (λ w. w ∷ []) (value_at k (with_at key v said))
     each k = at k (same_key key k) refl
 
     names : unwrap_or (all_of names_id (used (rule_at key) (v ∷ []) rows)) [] ≡ (with_at key v said).names
-    names = rw kept (ap (λ o. unwrap_or o []) (with_other (id_of key) names_id _ _ (v ∷ []) rows (no_name key)) ∙ (shows.1 ∙ sym (names_stay key v said)))
+    names = rw rows_stay (ap (λ o. unwrap_or o []) (with_other (id_of key) names_id _ _ (v ∷ []) rows (no_name key)) ∙ (shows.1 ∙ sym (names_stay key v said)))
 
 pub shows_name : (v : Text) (said : Said) (rows : List Row) → Shows said rows → Shows (with_names (v ∷ []) said) (used names_built (v ∷ []) rows)
 shows_name v said rows shows = (each, names)

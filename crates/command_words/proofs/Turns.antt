@@ -21,8 +21,8 @@ free true = idle
 free false = positional
 
 -- the kinds at which the word fails, and the walk after it
-abbrev pub Turn : Walk → Text → Kinds → Walk → Type 0
-Turn w word kinds after = (turn_fault shape [] w word ≡ kinds) × (walked rules [] w word ≡ after)
+abbrev pub WalksOver : Walk → Text → Kinds → Walk → Type 0
+WalksOver w word kinds after = (turn_fault shape [] w word ≡ kinds) × (walked rules [] w word ≡ after)
 
 no_subcommand : (waiting : Waiting) (word : Text) → subcommand_met [] waiting word ≡ None
 no_subcommand idle word = refl
@@ -30,19 +30,19 @@ no_subcommand (option id) word = refl
 no_subcommand positional word = refl
 
 pub turn_dashes : (rows : List Row) (pending : Pending) (waiting : Waiting) (word : Text) → Lexes word Dashes
-    → Turn (walk_at rows pending waiting false) word [] (walk_at rows pending waiting true)
+    → WalksOver (walk_at rows pending waiting false) word [] (walk_at rows pending waiting true)
 unfolding walked
 turn_dashes rows pending waiting word e = (rw (no_subcommand waiting word, e) refl, rw (no_subcommand waiting word, e) refl)
 
 pub turn_alone : (key : Key) (rows : List Row) (pending : Pending) (waiting : Waiting) (word : Text) → Lexes word (Alone key)
-    → Turn (walk_at rows pending waiting false) word (or_else (settle_fault rules false (held rows pending)) [])
+    → WalksOver (walk_at rows pending waiting false) word (or_else (settle_fault rules false (held rows pending)) [])
     (walk_at (settled_rows rules pending rows) (Some (id_of key, [])) (option (id_of key)) false)
 unfolding walked
 turn_alone key rows pending waiting word l =
     (rw (no_subcommand waiting word, l.0, l.2, l.3) refl, rw (no_subcommand waiting word, l.0, l.2, l.3) refl)
 
 pub turn_valued : (key : Key) (value : Text) (rows : List Row) (pending : Pending) (waiting : Waiting) (word : Text) → Lexes word (Valued key value)
-    → Turn (walk_at rows pending waiting false) word (or_else (react_fault rules false (rule_at key) (value ∷ []) (held rows pending)) [])
+    → WalksOver (walk_at rows pending waiting false) word (or_else (react_fault rules false (rule_at key) (value ∷ []) (held rows pending)) [])
     (walk_at (used (rule_at key) (value ∷ []) (settled_rows rules pending rows)) None idle false)
 unfolding walked
 turn_valued key value rows pending waiting word l =
@@ -61,7 +61,7 @@ names_settle : (rows : List Row) (pending : Pending)
 names_settle rows pending = rw (and-false (is_pending names_built pending)) refl
 
 pub turn_name : (b : Bool) (rows : List Row) (pending : Pending) (word : Text) → Lexes word Name
-    → Turn (walk_at rows pending (free b) false) word (settle_fault rules false (held rows pending))
+    → WalksOver (walk_at rows pending (free b) false) word (settle_fault rules false (held rows pending))
     (walk_at (settled_rows rules pending rows) (Some (names_id, word ∷ [])) positional false)
 unfolding walked
 turn_name true rows pending word l =
@@ -70,14 +70,14 @@ turn_name false rows pending word l =
     (rw (l.0, l.1, l.2) (names_settle rows pending), rw (l.0, l.1, l.2) (ap (λ h. record (walk_at rows pending positional false) { held = h }) (to_names rows pending word)))
 
 pub turn_trailing : (rows : List Row) (pending : Pending) (waiting : Waiting) (word : Text)
-    → Turn (walk_at rows pending waiting true) word (settle_fault rules false (held rows pending))
+    → WalksOver (walk_at rows pending waiting true) word (settle_fault rules false (held rows pending))
     (walk_at (settled_rows rules pending rows) (Some (names_id, word ∷ [])) positional true)
 unfolding walked
 turn_trailing rows pending waiting word =
     (names_settle rows pending, ap (λ h. record (walk_at rows pending positional true) { held = h }) (to_names rows pending word))
 
 pub turn_value : (key : Key) (rows : List Row) (word : Text) → Lexes word Name
-    → Turn (walk_at rows (Some (id_of key, [])) (option (id_of key)) false) word [] (walk_at rows (Some (id_of key, word ∷ [])) idle false)
+    → WalksOver (walk_at rows (Some (id_of key, [])) (option (id_of key)) false) word [] (walk_at rows (Some (id_of key, word ∷ [])) idle false)
 unfolding walked
 turn_value Workers rows word l = (rw (l.0, l.1, l.2) refl, rw (l.0, l.1, l.2) refl)
 turn_value Shards rows word l = (rw (l.0, l.1, l.2) refl, rw (l.0, l.1, l.2) refl)

@@ -12,7 +12,7 @@ use Rattle.command_words.specs.Words.{Key, Word, Dashes, Alone, Valued, Name, Re
 use Rattle.command_words.proofs.Rules.{id_of, names_id, rules, shape, rule_at, names_built, by_id, use_once, use_twice, use_bare}
 use Rattle.command_words.proofs.Rows.{Shows, shows_value, shows_name, has_said}
 use Rattle.command_words.proofs.Lexing.{Lexes, held, lexes}
-use Rattle.command_words.proofs.Turns.{Pending, Turn, walk_at, free, turn_dashes, turn_alone, turn_valued, turn_refused, turn_name, turn_trailing, turn_value}
+use Rattle.command_words.proofs.Turns.{Pending, WalksOver, walk_at, free, turn_dashes, turn_alone, turn_valued, turn_refused, turn_name, turn_trailing, turn_value}
 
 -- ---- the words' reading as clap's: a value is no word that begins with `-`, but `-` alone
 
@@ -59,23 +59,23 @@ or_else_fails : (a b : Kinds) → Fails a → Fails (or_else a b)
 or_else_fails [] b f e = f refl
 or_else_fails (k ∷ ks) b f e = some_fails k ks e
 
-one_more : (w : Walk) (word : Text) (words : List Text)
+fault_by_word : (w : Walk) (word : Text) (words : List Text)
     → fault_from w (word ∷ words) ≡ or_else (turn_fault shape [] w word) (fault_from (walked rules [] w word) words)
 unfolding walk_fault
-one_more w word words = or_else_assoc (turn_fault shape [] w word) (walk_fault shape [] (walked rules [] w word) words) (settle_fault rules false (end_of (walked rules [] w word) words).held)
+fault_by_word w word words = or_else_assoc (turn_fault shape [] w word) (walk_fault shape [] (walked rules [] w word) words) (settle_fault rules false (end_of (walked rules [] w word) words).held)
 
 turn_fails : (w : Walk) (word : Text) (words : List Text) → Fails (turn_fault shape [] w word) → Fails (fault_from w (word ∷ words))
-turn_fails w word words f e = or_else_fails _ (fault_from (walked rules [] w word) words) f (sym (one_more w word words) ∙ e)
+turn_fails w word words f e = or_else_fails _ (fault_from (walked rules [] w word) words) f (sym (fault_by_word w word words) ∙ e)
 
-turn_passes : (w after : Walk) (word : Text) (words : List Text) → Turn w word [] after → fault_from w (word ∷ words) ≡ fault_from after words
+turn_passes : (w after : Walk) (word : Text) (words : List Text) → WalksOver w word [] after → fault_from w (word ∷ words) ≡ fault_from after words
 turn_passes w after word words t =
-    one_more w word words ∙ (ap (λ k. or_else k (fault_from (walked rules [] w word) words)) t.0 ∙ ap (λ v. fault_from v words) t.1)
+    fault_by_word w word words ∙ (ap (λ k. or_else k (fault_from (walked rules [] w word) words)) t.0 ∙ ap (λ v. fault_from v words) t.1)
 
 rows_pass : (w after : Walk) (word : Text) (words : List Text) → walked rules [] w word ≡ after → rows_from w (word ∷ words) ≡ rows_from after words
 rows_pass w after word words e = ap (λ v. rows_from v words) e
 
 -- what meets the walk after the word, meets the walk before it
-passes : (o : Option Said) (w after : Walk) (word : Text) (words : List Text) → Turn w word [] after → Meets o after words → Meets o w (word ∷ words)
+passes : (o : Option Said) (w after : Walk) (word : Text) (words : List Text) → WalksOver w word [] after → Meets o after words → Meets o w (word ∷ words)
 passes None w after word words t m = λ e. m (sym (turn_passes w after word words t) ∙ e)
 passes (Some said) w after word words t m =
     (turn_passes w after word words t ∙ m.0, subst (Shows said) (sym (rows_pass w after word words t.1)) m.1)

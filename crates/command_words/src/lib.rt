@@ -57,6 +57,3 @@ pub enum Words<'a> {
         workers: u32,
     },
 }
-
-#[cfg(test)]
-mod tests;

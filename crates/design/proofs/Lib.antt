@@ -1,4 +1,4 @@
-pub mod Kept
+pub mod KeptSignals
 pub mod Ordered
 pub mod Answered
 pub mod Pinned

@@ -20,7 +20,7 @@ use Rattle.timing_file.specs.declared.TimingWhat.{TimingWhat}
 use Rattle.design.specs.declared.fault.JoinFault.{JoinFault}
 use Rattle.design.specs.declared.fault.JoinCause.{JoinCause}
 use Rattle.design.specs.declared.fault.JoinFile.TheVariants as file
-use Rattle.design.specs.declared.stated.Stated.{Stated}
+use Rattle.design.specs.declared.signal_timing.SignalTiming.{SignalTiming}
 use Rattle.design.specs.Causes.{out_of_memory}
 use Rattle.design.specs.Join.{number, or_else, last_said, when, is_signal, said_of, rows_say, first_fault, clock_of_row, cause_of_what, cause_of_timing, driver_at, fault_of, timing_fault}
 
@@ -96,7 +96,7 @@ pub row-passes : (netlist : netlists.Content) (timing : timings.Content) (row : 
     → timing_fault netlist timing row ≡ None
 row-passes netlist timing row s n o e none = ap (λ (m : Option ℕ). fault_of file.Timing row.line (cause_of_timing netlist timing m row.what)) n ∙ ap (fault_of file.Timing row.line) (sym e ∙ none)
 
-pub takes-row : (netlist : netlists.Content) (timing : timings.Content) (before : List TimingRow) (row : TimingRow) (stated : Stated) (r : Result (Unit {0}) JoinFault)
+pub takes-row : (netlist : netlists.Content) (timing : timings.Content) (before : List TimingRow) (row : TimingRow) (stated : SignalTiming) (r : Result (Unit {0}) JoinFault)
     → timing_fault netlist timing row ≡ None → OnOk r (HasStated netlist timing (before ++ row ∷ []) stated) → IfErr r (λ fault. fault ≡ out_of_memory) → TakesRow netlist timing before row stated r
 takes-row netlist timing before row stated (Ok x) none has oom = (none, has)
 takes-row netlist timing before row stated (Err fault) none has oom = inl oom

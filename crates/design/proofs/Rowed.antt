@@ -10,7 +10,7 @@ use Rattle.bench_reader.specs.Netlists.{NetlistDriver, Primary, Driven, IsNetlis
 use Rattle.timing_file.specs.Timing as timings
 use Rattle.design.specs.declared.rows.Row.{Row}
 use Rattle.design.specs.declared.rows.Row.TheVariants as row
-use Rattle.design.specs.declared.stated.Rows.{Rows}
+use Rattle.design.specs.declared.signal_timing.Rows.{Rows}
 use Rattle.design.specs.Join.{driver_at, is_dff, is_input, flop_of, pin_delays}
 use Rattle.design.specs.inner.Said.{input_at, inputs_in, place_in, least_of, gate_delays, delays_of, delays_at, flops_of, flops_at, gate_row, row_of, row_at, KnowsInputs, KeepsRows}
 use Rattle.design.proofs.Places.{first-more}

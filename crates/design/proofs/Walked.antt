@@ -102,8 +102,8 @@ module _ (n : ℕ) (edges : ℕ → ℕ → Bool) (Inside : ℕ → Type 0) (fir
   next-inside = w.sound next next-marked
 
   module _ (marks' : List Bool) (ahead' signals : List ℕ) (reads : (x : ℕ) → has signals x ≡ edges next x) (inside : (x : ℕ) → edges next x ≡ true → Inside x) (m : Marks signals marks marks' rest ahead') where
-    kept : (x : ℕ) → is_marked marks x ≡ true → is_marked marks' x ≡ true
-    kept x h = m.marked x ∙ or-left (is_marked marks x) (has signals x) h
+    marks_stay : (x : ℕ) → is_marked marks x ≡ true → is_marked marks' x ≡ true
+    marks_stay x h = m.marked x ∙ or-left (is_marked marks x) (has signals x) h
 
     added : (x : ℕ) → has signals x ≡ true → is_marked marks' x ≡ true
     added x h = m.marked x ∙ or-right (is_marked marks x) (has signals x) h
@@ -115,7 +115,7 @@ module _ (n : ℕ) (edges : ℕ → ℕ → Bool) (Inside : ℕ → Type 0) (fir
     old-whole : (x u : ℕ) → is_marked marks x ≡ true → has rest x ≡ false → edges x u ≡ true → is_marked marks' u ≡ true
     old-whole x u h k r = elim (known (nat_eq x next)) [
       | inl e ↦ added u (reads u ∙ ap (λ y. edges y u) (sym (nat_eq-true x next e)) ∙ r)
-      | inr e ↦ kept u (w.whole x u h (has-split x ∙ ap₂ (λ (a : Bool) (b : Bool). a || (b || false)) k e) r)
+      | inr e ↦ marks_stay u (w.whole x u h (has-split x ∙ ap₂ (λ (a : Bool) (b : Bool). a || (b || false)) k e) r)
     ]
 
     new-waits : (x : ℕ) → is_marked marks x ≡ false → has signals x ≡ true → has ahead' x ≡ false → ⊥
@@ -126,10 +126,10 @@ module _ (n : ℕ) (edges : ℕ → ℕ → Bool) (Inside : ℕ → Type 0) (fir
     pub walked-step : Walked n edges Inside first marks' ahead'
     walked-step = record {
       long = m.long ∙ w.long;
-      begun = kept first w.begun;
+      begun = marks_stay first w.begun;
       sound = λ x h. elim (or-cases (is_marked marks x) (has signals x) (sym (m.marked x) ∙ h)) [ inl o ↦ w.sound x o | inr s ↦ reached x s ];
       waits = λ x h. elim (or-cases (has rest x) (has signals x && not (is_marked marks x)) (sym (m.waits x) ∙ h)) [
-        | inl o ↦ kept x (w.waits x (has-split x ∙ or-left (has rest x) (nat_eq x next || false) o))
+        | inl o ↦ marks_stay x (w.waits x (has-split x ∙ or-left (has rest x) (nat_eq x next || false) o))
         | inr s ↦ added x (and-left (has signals x) (not (is_marked marks x)) s)
       ];
       whole = λ x u h k r. elim (known (is_marked marks x)) [

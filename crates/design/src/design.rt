@@ -21,7 +21,7 @@ use crate::origin::Origin;
 use crate::readers::{OpenReaders, Readers, shared_readers};
 use crate::rows::SignalView;
 use crate::settings;
-use crate::stated::Stated;
+use crate::signal_timing::SignalTiming;
 use bench_reader::Netlist;
 use gate_values::{Kind, Value};
 use owned_text::OutOfMemory;
@@ -71,7 +71,7 @@ impl Design {
         netlist.facts();
         timing.facts();
         stimulus.facts();
-        let stated = Stated::read(alloc, &netlist, timing)?;
+        let stated = SignalTiming::read(alloc, &netlist, timing)?;
         let kept = stated.rows(alloc, &netlist, timing)?;
         let horizon = stimulus.horizon();
         let settings = settings::read(alloc, &netlist, &kept, horizon, stimulus.sets())?;

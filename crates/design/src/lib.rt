@@ -38,7 +38,7 @@ mod origin;
 mod readers;
 mod rows;
 mod settings;
-mod stated;
+mod signal_timing;
 
 pub use design::Design;
 pub use fault::{JoinCause, JoinFault, JoinFile};

@@ -12,7 +12,7 @@ ghost use Rattle.design.specs.inner.Said.{KnowsInputs, HasSets, TakesSet, TakesS
 
 use crate::fault::{JoinCause, JoinFault, JoinFile};
 use crate::rows::Row;
-use crate::stated::Rows;
+use crate::signal_timing::Rows;
 use bench_reader::Netlist;
 use circuit_meaning::Setting;
 use gate_values::Value;

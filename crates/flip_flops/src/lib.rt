@@ -70,29 +70,3 @@ pub fn flop_span(clock: &Clock, delay: u32, t: u32, cut: u32) -> Span
 pub fn edges_are_last()
     ensures { EdgesAreLast }
 {}
-
-#[cfg(test)]
-mod tests {
-    use super::*;
-
-    // a flip-flop with delay 1, a clock with edges at 10, 20 and 30, and a horizon of 30
-    #[test]
-    fn shown_edges(rt: HostRuntime) {
-        let clock = Clock {
-            first: 10,
-            period: 10,
-        };
-        for (t, edge, start, end) in [
-            (0, None, 0, 11),
-            (10, None, 0, 11),
-            (11, Some(10), 11, 21),
-            (20, Some(10), 11, 21),
-            (21, Some(20), 21, 31),
-            (30, Some(20), 21, 31),
-        ] {
-            assert_eq!(rt; last_edge(&clock, 1, t), edge, "at {t}");
-            let shown = flop_span(&clock, 1, t, 31);
-            assert_eq!(rt; (shown.start(), shown.end()), (start, end), "at {t}");
-        }
-    }
-}

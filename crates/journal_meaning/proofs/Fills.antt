@@ -18,7 +18,7 @@ use Rattle.journal_meaning.specs.Counts.{is_fill_at, fills_at, is_eviction_of, e
 use Rattle.journal_meaning.proofs.Same.{same_point-true, same_point-itself}
 use Rattle.journal_meaning.proofs.Lists.{Stands, Here, test-false}
 use Rattle.journal_meaning.proofs.Claims.{Quiet, quiet, still_unclaimed, holder-without, own-covers}
-use Rattle.journal_meaning.proofs.Kept.{Evicts, stays}
+use Rattle.journal_meaning.proofs.BetweenFills.{Evicts, stays}
 
 abbrev one : Bool → ℕ
 one true = 1

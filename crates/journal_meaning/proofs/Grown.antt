@@ -52,7 +52,7 @@ count-append test xs ys = ap length (filter-append test xs ys) ∙ length-append
 -- one list of entries after another
 pub grows-append : (old added : List Entry) → GrowsBy old added (old ++ added)
 grows-append old added = record {
-  kept = Contains-append_left old added;
+  old_stay = Contains-append_left old added;
   now = Contains-append_right old added;
   only = Contains-append_cases old added;
   counts = λ test. count-append test old added;
@@ -64,8 +64,8 @@ grows-none old = subst (GrowsBy old []) (append-nil old) (grows-append old [])
 
 pub grows-more : (a x b y c : List Entry) → GrowsBy a x b → GrowsBy b y c → GrowsBy a (x ++ y) c
 grows-more a x b y c g h = record {
-  kept = λ e k. h.kept e (g.kept e k);
-  now = λ e k. elim (Contains-append_cases x y e k) [ inl l ↦ h.kept e (g.now e l) | inr l ↦ h.now e l ];
+  old_stay = λ e k. h.old_stay e (g.old_stay e k);
+  now = λ e k. elim (Contains-append_cases x y e k) [ inl l ↦ h.old_stay e (g.now e l) | inr l ↦ h.now e l ];
   only = λ e k. elim (h.only e k) [
     | inl l ↦ elim (g.only e l) [ inl m ↦ inl m | inr m ↦ inr (Contains-append_left x y e m) ]
     | inr l ↦ inr (Contains-append_right x y e l)
@@ -162,7 +162,7 @@ splits shards j (suc k) (es ∷ rest) now h l =
 -- entries that are put between others grow them, where none after them is of the same query and point
 between : (front list added back : List Entry) → ((q : ℕ) (p : Point) → last_of added q p ≢ None → last_of back q p ≡ None) → GrowsBy (front ++ (list ++ back)) added (front ++ ((list ++ added) ++ back))
 between front list added back none = record {
-  kept = λ e k. elim (Contains-append_cases front (list ++ back) e k) [
+  old_stay = λ e k. elim (Contains-append_cases front (list ++ back) e k) [
     | inl l ↦ Contains-append_left front ((list ++ added) ++ back) e l
     | inr l ↦ Contains-append_right front ((list ++ added) ++ back) e (elim (Contains-append_cases list back e l) [
       | inl m ↦ Contains-append_left (list ++ added) back e (Contains-append_left list added e m)
@@ -275,9 +275,9 @@ behind-same (x ∷ xs) ys zs h = behind-same xs ys zs (cc h)
 
 grows-both : (l m rest mores news : List Entry) → GrowsBy rest mores news → ((q : ℕ) (p : Point) → last_of m q p ≢ None → last_of rest q p ≡ None) → GrowsBy (l ++ rest) (m ++ mores) ((l ++ m) ++ news)
 grows-both l m rest mores news g none = record {
-  kept = λ e k. elim (Contains-append_cases l rest e k) [
+  old_stay = λ e k. elim (Contains-append_cases l rest e k) [
     | inl n ↦ Contains-append_left (l ++ m) news e (Contains-append_left l m e n)
-    | inr n ↦ Contains-append_right (l ++ m) news e (g.kept e n)
+    | inr n ↦ Contains-append_right (l ++ m) news e (g.old_stay e n)
   ];
   now = λ e k. elim (Contains-append_cases m mores e k) [
     | inl n ↦ Contains-append_left (l ++ m) news e (Contains-append_right l m e n)
@@ -386,7 +386,7 @@ legal-home b k s (e ∷ es) h = (allowed-home b k e h.1, legal-home b k (after s
 -- what is said stays said, and what is covered stays covered
 module _ (old added new : List Entry) (g : GrowsBy old added new) where
   pub said-kept : (p : Point) → IsSaid old p → IsSaid new p
-  said-kept p h = (h.0, g.kept h.0 h.1, h.2)
+  said-kept p h = (h.0, g.old_stay h.0 h.1, h.2)
 
   pub said-now : (p : Point) → IsSaid added p → IsSaid new p
   said-now p h = (h.0, g.now h.0 h.1, h.2)

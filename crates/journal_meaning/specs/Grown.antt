@@ -32,7 +32,7 @@ refusals es q = count (is_spent_of q) es
 -- The new entries are the old ones and the added ones. If a query has an added entry at a point, its last entry there is an added
 -- one.
 pub record GrowsBy (old added new : List Entry) : Type 0 where
-  pub kept : (e : Entry) → Contains old e → Contains new e
+  pub old_stay : (e : Entry) → Contains old e → Contains new e
   pub now : (e : Entry) → Contains added e → Contains new e
   pub only : (e : Entry) → Contains new e → Contains old e ⊎ Contains added e
   pub counts : (test : Entry → Bool) → count test new ≡ count test old + count test added

@@ -47,8 +47,6 @@
 mod laws;
 mod reading;
 mod sections;
-#[cfg(test)]
-mod tests;
 mod writing;
 
 pub use laws::{one_journal, one_section};

@@ -16,8 +16,6 @@
 #![tactic(auto)]
 
 mod out_of_memory;
-#[cfg(test)]
-mod tests;
 mod text;
 
 pub use out_of_memory::OutOfMemory;

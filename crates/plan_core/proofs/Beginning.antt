@@ -227,7 +227,7 @@ module _ (b : Batch) (lawful : IsLawful b) (opening : ℕ → List SignalCell) (
       lawful = lawful;
       numbers = λ i r at. let s = tags-at strands places tagged i r at in s.1.1.number ∙ (new i s.0 s.1.0).number;
       order = free.order;
-      kept = now-kept;
+      kept_plan = now-kept;
       sound = sound;
     }
 

@@ -138,7 +138,7 @@ module _ (b : Batch) (opening : ℕ → List SignalCell) (places : List (Option 
       let shard : h.shard ≡ shard_with_entry e h0.shard = ap (λ (z : KeptShard). z.shard) is in
       let parked : (waited_shard h).parked ≡ (kept.waited_shard_at (waited_shards shards) p).parked = ap (λ (z : KeptShard). map parked_of z.waiting) is ∙ ap (λ (z : WaitedShard). z.parked) (sym (home-is b opening places shards parts n s0 at p slot slot-is h0 index)) in
       let hs = slice_set (waited_shards shards) (p.signal % length (waited_shards shards)) (waited_shard h) in
-      let now_0 = kept-put (seats places) (waited_shards shards) old.strands parts.kept n s0.strand here_0 p s0.strand (waited_shard h) calm parked in
+      let now_0 = kept-put (seats places) (waited_shards shards) old.strands parts.kept_plan n s0.strand here_0 p s0.strand (waited_shard h) calm parked in
       let now : IsKeptPlan (seats places) hs old.strands =
       subst (λ xs. IsKeptPlan (seats places) hs xs) (set-same old.strands n s0.strand at-plan) (subst (λ z. IsKeptPlan z hs (slice_set old.strands n s0.strand)) (set-same (seats places) n (Some s0.strand) here_0) now_0) in
       let many : length old.shards ≡ b.shards = parts.sound.count in

@@ -27,9 +27,9 @@ module _ (b : Batch) (opening : ℕ → List SignalCell) (places : List (Option 
 
   pub gap-rests : IsNextAt places n None → OfTurn b opening old n places shards (Ok comes.NotReady)
   gap-rests at =
-      let g = parts.kept.parts.gap n (map-get seat places n None at) in
+      let g = parts.kept_plan.parts.gap n (map-get seat places n None at) in
       let w = g.1.0 in
-      let k = parts.kept.parts.waiter g.0 w g.1.1.0 in
+      let k = parts.kept_plan.parts.waiter g.0 w g.1.1.0 in
       let there : slice_get old.strands n ≡ Some (waiting w.strand) = subst (λ m. slice_get old.strands m ≡ Some (waiting w.strand)) g.1.1.1 k.1 in
       rests (waiting w.strand) (waiting-turn b old n (waiting w.strand) there refl)
 
@@ -40,7 +40,7 @@ module _ (b : Batch) (opening : ℕ → List SignalCell) (places : List (Option 
   pub unplaced-waits : (plan : Plan) → plan_at places shards ≡ plan → ((s : Demand) → slice_get places n ≡ Some (Some s) → ⊥) → (s : Strand) → slice_get plan.strands n ≡ Some s → s.waits ≡ true
   unplaced-waits plan e none s at =
       let there : slice_get old.strands n ≡ Some s = ap (λ (z : Plan). slice_get z.strands n) e ∙ at in
-      let long = parts.kept.parts.length in
+      let long = parts.kept_plan.parts.length in
       let many = length-map places seat in
       let inside = slice_get_within old.strands n s there in
       let low : n < length places = omega arith in
@@ -54,9 +54,9 @@ module _ (b : Batch) (opening : ℕ → List SignalCell) (places : List (Option 
       by : (o : Option Demand) × (slice_get places n ≡ Some o) → slice_get (plan_at places shards).strands n ≡ Some s → s.waits ≡ true
       by (Some r, h) there = absurd (none r h)
       by (None, h) there =
-          let g = parts.kept.parts.gap n (map-get seat places n None h) in
+          let g = parts.kept_plan.parts.gap n (map-get seat places n None h) in
           let w = g.1.0 in
-          let k = parts.kept.parts.waiter g.0 w g.1.1.0 in
+          let k = parts.kept_plan.parts.waiter g.0 w g.1.1.0 in
           let is : slice_get (plan_at places shards).strands n ≡ Some (waiting w.strand) = subst (λ m. slice_get (plan_at places shards).strands m ≡ Some (waiting w.strand)) g.1.1.1 k.1 in
           let same : waiting w.strand ≡ s = cc (is, there) in
           ap (λ (z : Strand). z.waits) (sym same)
@@ -65,7 +65,7 @@ module _ (b : Batch) (opening : ℕ → List SignalCell) (places : List (Option 
   pub awake-placed : (plan : Plan) → plan_at places shards ≡ plan → (x : Strand) → slice_get plan.strands n ≡ Some x → x.waits ≡ false → (s : Demand) × ((slice_get places n ≡ Some (Some s)) × (s.strand ≡ x))
   awake-placed plan e x at calm =
       let there : slice_get old.strands n ≡ Some x = ap (λ (z : Plan). slice_get z.strands n) e ∙ at in
-      let long = parts.kept.parts.length in
+      let long = parts.kept_plan.parts.length in
       let many = length-map places seat in
       let inside = slice_get_within old.strands n x there in
       let low : n < length places = omega arith in

@@ -52,7 +52,7 @@ module _ (b : Batch) (opening : ℕ → List SignalCell) (places : List (Option 
           lawful = parts.lawful;
           numbers = numbers;
           order = order;
-          kept = subst (λ z. R z (waited_shards ns)) (sym e) (subst (R (seats places)) (sym k) parts.kept);
+          kept_plan = subst (λ z. R z (waited_shards ns)) (sym e) (subst (R (seats places)) (sym k) parts.kept_plan);
           sound = subst (IsSound b opening) (sym same) parts.sound;
         };
         same = same;
@@ -63,10 +63,10 @@ module _ (b : Batch) (opening : ℕ → List SignalCell) (places : List (Option 
     here = map-get seat places n (Some s0) at
 
     pub in-plan : slice_get plan.strands n ≡ Some s0.strand
-    in-plan = (parts.kept.parts.ready n s0.strand here).0
+    in-plan = (parts.kept_plan.parts.ready n s0.strand here).0
 
     pub awake : s0.strand.waits ≡ false
-    awake = (parts.kept.parts.ready n s0.strand here).1
+    awake = (parts.kept_plan.parts.ready n s0.strand here).1
 
     module _ (p : Point) (slot : ℕ) (slot-is : slot ≡ p.signal % length shards) (h0 : KeptShard) (index : h0 ≡ get_or shards slot h0) where
       slot-waited : slot ≡ p.signal % length (waited_shards shards)
@@ -74,7 +74,7 @@ module _ (b : Batch) (opening : ℕ → List SignalCell) (places : List (Option 
 
       pub at-home : slice_get shards slot ≡ Some h0
       at-home =
-          let some_shard : 1 ≤ length shards = let k = parts.kept.some in let l = shards-len in omega arith in
+          let some_shard : 1 ≤ length shards = let k = parts.kept_plan.some in let l = shards-len in omega arith in
           let low : slot < length shards = omega arith in
           read-at shards slot h0 low index
 
@@ -120,13 +120,13 @@ module _ (b : Batch) (opening : ℕ → List SignalCell) (places : List (Option 
           let is = kept-is blank (seats after) hs (change plan.strands) now in
           let value : (waited_shard h).shard ≡ g (kept.waited_shard_at (waited_shards shards) p).shard = shard ∙ ap (λ (m : WaitedShard). g m.shard) (sym home) in
           let same : plan_at after ns ≡ new = ap (plan_of blank (seats after)) e
-          ∙ kept-step blank (seats places) (seats after) (waited_shards shards) p (waited_shard h) plan.strands change g parts.kept now value ∙ sym turns in
+          ∙ kept-step blank (seats places) (seats after) (waited_shards shards) p (waited_shard h) plan.strands change g parts.kept_plan now value ∙ sym turns in
           record {
             parts = record {
               lawful = parts.lawful;
               numbers = numbers;
               order = order-set h number;
-              kept = subst (λ z. IsKeptPlan (seats after) z (plan_of blank (seats after) z).strands) (sym e) (subst (IsKeptPlan (seats after) hs) (sym is) now);
+              kept_plan = subst (λ z. IsKeptPlan (seats after) z (plan_of blank (seats after) z).strands) (sym e) (subst (IsKeptPlan (seats after) hs) (sym is) now);
               sound = subst (IsSound b opening) (sym same) sound;
             };
             same = same;
@@ -151,7 +151,7 @@ module _ (b : Batch) (opening : ℕ → List SignalCell) (places : List (Option 
           let e : seats (slice_set places n (Some s)) ≡ slice_set (seats places) n (Some t) = map-set seat places n (Some s) ∙ ap (λ z. slice_set (seats places) n (Some z)) step.strand in
           seen (slice_set places n (Some s)) h (λ ys. slice_set ys n t) g
           (numbers-set places parts.numbers n (Some s0) at s (step.number ∙ parts.numbers n s0 at)) number
-          (subst (λ z. IsKeptPlan z hs (slice_set plan.strands n t)) (sym e) (kept-put (seats places) (waited_shards shards) plan.strands parts.kept n s0.strand here p t (waited_shard h) quiet parked))
+          (subst (λ z. IsKeptPlan z hs (slice_set plan.strands n t)) (sym e) (kept-put (seats places) (waited_shards shards) plan.strands parts.kept_plan n s0.strand here p t (waited_shard h) quiet parked))
           shard turns
 
       pub same-shard : (z : Plan) → z.shards ≡ plan.shards → with_shard z p (shard_of plan p) ≡ z

@@ -123,7 +123,7 @@ module _ (b : Batch) (opening : ℕ → List SignalCell) (places : List (Option 
         let waiter : numbered_strand s0 ≡ record { number = n; strand = s0.strand } = let made : ℕ → NumberedStrand = λ k. record { number = k; strand = s0.strand } in ap made (parts.numbers n s0 at) in
         let e : seats (slice_set places n None) ≡ slice_set (seats places) n None = map-set seat places n None in
         let hs = slice_set (waited_shards shards) (p.signal % length (waited_shards shards)) (waited_shard h) in
-        let now = kept-wait (seats places) (waited_shards shards) old.strands parts.kept n s0.strand (here b opening places shards parts n s0 at) p (waited_shard h) asks
+        let now = kept-wait (seats places) (waited_shards shards) old.strands parts.kept_plan n s0.strand (here b opening places shards parts n s0 at) p (waited_shard h) asks
         (waits-here h0 h p s0 f ∙ ap (λ (m : WaitedShard). kept.waiting_at m.parked p ++ numbered_strand s0 ∷ []) (sym here_0) ∙ ap (λ w. kept.waiters (waited_shards shards) p ++ w ∷ []) waiter)
         (λ x ne. waits-other h0 h p s0 f x ne ∙ ap (λ (m : WaitedShard). kept.waiting_at m.parked x) (sym here_0))
         (homes b opening places shards parts n s0 at p slot slot-is h0 index h known f.number) in (
@@ -147,7 +147,7 @@ module _ (b : Batch) (opening : ℕ → List SignalCell) (places : List (Option 
 
     low : (w : NumberedStrand) → IsAmong w (kept.waiters (waited_shards shards) p) → w.number < length places
     low w h =
-        let k = (parts.kept.parts.waiter p w h).0 in
+        let k = (parts.kept_plan.parts.waiter p w h).0 in
         let l = slice_get_within (seats places) w.number None k in
         let m = length-map places seat in
         omega arith
@@ -155,7 +155,7 @@ module _ (b : Batch) (opening : ℕ → List SignalCell) (places : List (Option 
     -- none of them has its place
     apart : (w : NumberedStrand) → IsAmong w (kept.waiters (waited_shards shards) p) → w.number ≡ n → ⊥
     apart w h e =
-        let k : slice_get (seats places) w.number ≡ Some None = (parts.kept.parts.waiter p w h).0 in
+        let k : slice_get (seats places) w.number ≡ Some None = (parts.kept_plan.parts.waiter p w h).0 in
         let there : slice_get (seats places) w.number ≡ Some (Some s0.strand) = ap (λ i. slice_get (seats places) i) e ∙ here b opening places shards parts n s0 at in
         absurd (cc (k, there))
 
@@ -185,7 +185,7 @@ module _ (b : Batch) (opening : ℕ → List SignalCell) (places : List (Option 
           let shape : seats after ≡ slice_set (put_back f ps ws) n (Some t) =
           seats_are ∙ ap (λ xs. put_back itself xs (map numbered_strand list)) stepped ∙ ap (put_back itself (slice_set ps n (Some t))) come-out ∙ put-changed f (slice_set ps n (Some t)) ws
           ∙ put-apart f n (Some t) ps ws apart in
-          let now = kept-wake ps (waited_shards shards) old.strands parts.kept n s0.strand (here b opening places shards parts n s0 at) p f quiet fits t (waited_shard h) calm
+          let now = kept-wake ps (waited_shards shards) old.strands parts.kept_plan n s0.strand (here b opening places shards parts n s0 at) p f quiet fits t (waited_shard h) calm
           (none-here h0 h p leaves)
           (λ x ne. none-other h0 h p leaves x ne ∙ ap (λ (m : WaitedShard). kept.waiting_at m.parked x) (sym home_0))
           (homes b opening places shards parts n s0 at p slot slot-is h0 index h known number) in

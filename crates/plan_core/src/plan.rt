@@ -190,7 +190,7 @@ impl<B: BatchName> Plan<B> {
             → (unrefused.old ≡ true → RunsAlone B.batch B.opening number a old self.old None)
             → IfOk result (λ more. more ≡ false → unrefused.new ≡ true
             → RanAlone B.batch B.opening number a old self.new None) }
-        ensures kept { OnOk result (SomeRefused self.old → SomeRefused self.new) }
+        ensures refusal_stays { OnOk result (SomeRefused self.old → SomeRefused self.new) }
         ensures refused { OnOk result ((unrefused.old ≡ false → SomeRefused self.old)
             → unrefused.new ≡ false → SomeRefused self.new) }
     {
@@ -218,7 +218,7 @@ impl<B: BatchName> Plan<B> {
         ensures ran { (a : Start) → BeginsAlone B.batch B.opening number a self.old
             → IfOk result (λ unrefused. unrefused ≡ Some true
             → RanAlone B.batch B.opening number a self.old self.new None) }
-        ensures kept { OnOk result (SomeRefused self.old → SomeRefused self.new) }
+        ensures refusal_stays { OnOk result (SomeRefused self.old → SomeRefused self.new) }
         ensures refused { IfOk result (λ unrefused. unrefused ≡ Some false
             → SomeRefused self.new) }
     {

@@ -17,11 +17,10 @@ use memo_shards::Shard;
 use plan_machine::Turned;
 use std::alloc::Global;
 use std::marker::Brand;
-use std::process::Abort;
 use std::test::Fail;
 use stimulus_file::read_stimulus;
 use timing_file::read_timing;
-use valid_intervals::{Cell, Point, Span};
+use valid_intervals::Cell;
 
 /// A netlist whose gates have a delay of 1, its stimulus, and the query of each of the two strands.
 #[derive(Clone, Copy)]
@@ -31,19 +30,33 @@ struct Scene {
     queries: [Query; 2],
 }
 
-/// One turn as it should be: of the strand with this number, with this result, and whether each strand is ready after it.
+/// One turn as it should be: the number of its strand, its result, and whether each strand is ready after it.
+type Wanted = (u32, Turned, [bool; 2]);
+
+/// An entry of a journal: its query, the signal and the time of its point, and of a cell the first time, the first time after it and
+/// the value.
+#[derive(Clone, Copy, PartialEq, Eq)]
+enum Line {
+    Told(u32, u32, u32, (u32, u32, Value)),
+    Claimed(u32, u32, u32),
+    Filled(u32, u32, u32, (u32, u32, Value)),
+    Dropped(u32, u32, u32),
+    Another,
+}
+
+/// A scene, its turns one after another, and the journal of each shard after the last.
 #[derive(Clone, Copy)]
-struct Wanted {
-    number: u32,
-    turned: Turned,
-    ready: [bool; 2],
+struct Story {
+    scene: Scene,
+    turns: &'static [Wanted],
+    journals: [&'static [Line]; 2],
 }
 
 /// What turns came to: the result of each, and the journal of each shard after the last.
 #[derive(Drop)]
 struct Outcome {
     turned: Vec<Turned>,
-    journals: Vec<Vec<Entry>>,
+    journals: Vec<Vec<Line>>,
 }
 
 /// The text, where it is short.
@@ -145,11 +158,33 @@ fn make_turns<B: BatchName>(
     Ok(turned)
 }
 
+fn parts(cell: &Cell) -> (u32, u32, Value) {
+    (cell.span.start(), cell.span.end(), cell.value)
+}
+
+fn line_of(entry: &Entry) -> Line {
+    match entry {
+        Entry::Told { q, p, cell } => Line::Told(*q, p.signal, p.time, parts(cell)),
+        Entry::Claimed { q, p } => Line::Claimed(*q, p.signal, p.time),
+        Entry::Filled { q, p, cell } => Line::Filled(*q, p.signal, p.time, parts(cell)),
+        Entry::Dropped { q, p } => Line::Dropped(*q, p.signal, p.time),
+        _ => Line::Another,
+    }
+}
+
+fn lines_of(alloc: Global, entries: &[Entry]) -> Result<Vec<Line>, Fail> {
+    let mut lines = Vec::new(alloc);
+    for entry in entries {
+        lines.push(line_of(entry))?;
+    }
+    Ok(lines)
+}
+
 /// The journal of each shard.
-fn journals_of<B: BatchName>(alloc: Global, shards: &[Shard<B>]) -> Result<Vec<Vec<Entry>>, Fail> {
+fn journals_of<B: BatchName>(alloc: Global, shards: &[Shard<B>]) -> Result<Vec<Vec<Line>>, Fail> {
     let mut journals = Vec::new(alloc);
     for shard in shards {
-        journals.push(shard.journal().to_vec(alloc)?)?;
+        journals.push(lines_of(alloc, shard.journal())?)?;
     }
     Ok(journals)
 }
@@ -198,7 +233,7 @@ fn play(alloc: Global, scene: &Scene, numbers: &[u32]) -> Result<Outcome, Fail> 
 }
 
 /// The result of one more turn, of this strand.
-fn one_more(
+fn turn_after(
     alloc: Global,
     scene: &Scene,
     numbers: &[u32],
@@ -213,57 +248,59 @@ fn one_more(
 /// Whether each strand is ready after these turns: one that waits or has ended makes no further turn.
 fn ready_after(alloc: Global, scene: &Scene, numbers: &[u32]) -> Result<[bool; 2], Fail> {
     let not_ready = Some(Turned::NotReady);
-    let first = one_more(alloc, scene, numbers, 0)?;
-    let second = one_more(alloc, scene, numbers, 1)?;
+    let first = turn_after(alloc, scene, numbers, 0)?;
+    let second = turn_after(alloc, scene, numbers, 1)?;
     Ok([first != not_ready, second != not_ready])
 }
 
-/// Asserts each turn, and the journals after the last.
-fn assert_turns<R: Abort>(
-    rt: &R,
+/// Whether the turn after these is as it should be.
+fn is_as_wanted(
     alloc: Global,
     scene: &Scene,
-    turns: &[Wanted],
-    journals: [&[Entry]; 2],
-) -> Result<(), Fail> {
+    numbers: &[u32],
+    (number, wanted, ready): Wanted,
+) -> Result<bool, Fail> {
+    let turned = turn_after(alloc, scene, numbers, number)?;
+    let mut numbers = numbers.to_vec(alloc)?;
+    numbers.push(number)?;
+    let found = ready_after(alloc, scene, &numbers)?;
+    Ok(turned == Some(wanted) && found == ready)
+}
+
+/// Whether these turns of a scene leave these journals.
+fn are_journals(
+    alloc: Global,
+    scene: &Scene,
+    numbers: &[u32],
+    journals: [&[Line]; 2],
+) -> Result<bool, Fail> {
+    let outcome = play(alloc, scene, numbers)?;
+    let [first, second] = journals;
+    Ok(match outcome.journals.as_slice() {
+        [zero, one] => zero.as_slice() == first && one.as_slice() == second,
+        _ => false,
+    })
+}
+
+/// The place of the first turn that is not as it should be. Where only a journal is not, it is the number of turns.
+fn first_wrong(alloc: Global, story: &Story) -> Result<Option<usize>, Fail> {
     let mut numbers = Vec::new(alloc);
-    for turn in turns {
-        let place = numbers.len();
-        let turned = one_more(alloc, scene, &numbers, turn.number)?;
-        assert_eq!(rt; turned, Some(turn.turned), "turn {place}");
-        numbers.push(turn.number)?;
-        let ready = ready_after(alloc, scene, &numbers)?;
-        assert_eq!(rt; ready, turn.ready, "after turn {place}");
+    for wanted in story.turns {
+        if !is_as_wanted(alloc, &story.scene, &numbers, *wanted)? {
+            return Ok(Some(numbers.len()));
+        }
+        numbers.push(wanted.0)?;
     }
-    let outcome = play(alloc, scene, &numbers)?;
-    assert_eq!(rt; outcome.journals.len(), 2);
-    assert_eq!(rt; outcome.journals[0].as_slice(), journals[0]);
-    assert_eq!(rt; outcome.journals[1].as_slice(), journals[1]);
-    Ok(())
-}
-
-const fn turn(number: u32, turned: Turned, ready: [bool; 2]) -> Wanted {
-    Wanted {
-        number,
-        turned,
-        ready,
+    if are_journals(alloc, &story.scene, &numbers, story.journals)? {
+        Ok(None)
+    } else {
+        Ok(Some(numbers.len()))
     }
-}
-
-const fn at(signal: u32, time: u32) -> Point {
-    Point { signal, time }
-}
-
-/// The cell of the times from `start` on and before `end`.
-fn cell(start: u32, end: u32, value: Value) -> Result<Cell, Fail> {
-    let span = Span::new(start, end).ok_or("no span")?;
-    Ok(Cell { span, value })
 }
 
 // a is 0, y is 1. a is 0 from 0 on and 1 from 4 on, so y is x at 0, 1 from 1 on and 0 from 5 on.
-#[test]
-fn strands_take_turns_on_two_points_of_a_gate(rt: HostRuntime) -> Result<(), Fail> {
-    let scene = Scene {
+static TWO_POINTS_OF_A_GATE: Story = Story {
+    scene: Scene {
         netlist: "INPUT(a)\nOUTPUT(y)\ny = NOT(a)\n",
         stimulus: "horizon 10\nset a 0 0\nset a 4 1\n",
         queries: [
@@ -283,46 +320,41 @@ fn strands_take_turns_on_two_points_of_a_gate(rt: HostRuntime) -> Result<(), Fai
                 budget: 4,
             },
         ],
-    };
-    let turns = [
+    },
+    turns: &[
         // each claims a point, whose child is one of the input, and is heard at once
-        turn(0, Turned::Claimed, [true, true]),
-        turn(1, Turned::Claimed, [true, true]),
-        turn(0, Turned::Filled, [true, true]),
+        (0, Turned::Claimed, [true, true]),
+        (1, Turned::Claimed, [true, true]),
+        (0, Turned::Filled, [true, true]),
         // the only root of the strand 1 is heard
-        turn(1, Turned::Filled, [true, false]),
-        turn(1, Turned::NotReady, [true, false]),
+        (1, Turned::Filled, [true, false]),
+        (1, Turned::NotReady, [true, false]),
         // the cell that the strand 1 stored is that of 5 too
-        turn(0, Turned::Told, [false, false]),
-        turn(0, Turned::NotReady, [false, false]),
-    ];
-    let second = [
-        Entry::Claimed { q: 10, p: at(1, 3) },
-        Entry::Claimed { q: 20, p: at(1, 7) },
-        Entry::Filled {
-            q: 10,
-            p: at(1, 3),
-            cell: cell(1, 5, Value::One)?,
-        },
-        Entry::Filled {
-            q: 20,
-            p: at(1, 7),
-            cell: cell(5, 11, Value::Zero)?,
-        },
-        Entry::Told {
-            q: 10,
-            p: at(1, 5),
-            cell: cell(5, 11, Value::Zero)?,
-        },
-    ];
-    assert_turns(&rt, rt.alloc(), &scene, &turns, [&[], &second])
+        (0, Turned::Told, [false, false]),
+        (0, Turned::NotReady, [false, false]),
+    ],
+    journals: [
+        &[],
+        &[
+            Line::Claimed(10, 1, 3),
+            Line::Claimed(20, 1, 7),
+            Line::Filled(10, 1, 3, (1, 5, Value::One)),
+            Line::Filled(20, 1, 7, (5, 11, Value::Zero)),
+            Line::Told(10, 1, 5, (5, 11, Value::Zero)),
+        ],
+    ],
+};
+
+#[test]
+fn strands_take_turns_on_two_points_of_a_gate(rt: HostRuntime) -> Result<(), Fail> {
+    assert_eq!(rt; first_wrong(rt.alloc(), &TWO_POINTS_OF_A_GATE)?, None);
+    Ok(())
 }
 
 // a is 0, n2 is 1, n1 is 2. a is 1 from 0 on, so n1 is 1 from 1 on, and n2 from 2 on. The shard 0 has the points of n1, and the shard 1
 // those of n2.
-#[test]
-fn a_strand_waits_until_a_claim_is_dropped(rt: HostRuntime) -> Result<(), Fail> {
-    let scene = Scene {
+static A_DROPPED_CLAIM: Story = Story {
+    scene: Scene {
         netlist: "INPUT(a)\nOUTPUT(n2)\nn1 = BUFF(a)\nn2 = BUFF(n1)\n",
         stimulus: "horizon 10\nset a 0 1\n",
         queries: [
@@ -342,47 +374,45 @@ fn a_strand_waits_until_a_claim_is_dropped(rt: HostRuntime) -> Result<(), Fail> 
                 budget: 2,
             },
         ],
-    };
-    let turns = [
-        turn(0, Turned::Claimed, [true, true]),
-        turn(1, Turned::Waits, [true, false]),
-        turn(1, Turned::NotReady, [true, false]),
-        turn(0, Turned::Spent, [true, false]),
+    },
+    turns: &[
+        (0, Turned::Claimed, [true, true]),
+        (1, Turned::Waits, [true, false]),
+        (1, Turned::NotReady, [true, false]),
+        (0, Turned::Spent, [true, false]),
         // the strand 0 ends without its root, and the strand 1 still has to ask for n2 at 5
-        turn(0, Turned::Dropped, [false, true]),
-        turn(0, Turned::NotReady, [false, true]),
+        (0, Turned::Dropped, [false, true]),
+        (0, Turned::NotReady, [false, true]),
         // n2 at 5, and then n1 at 4
-        turn(1, Turned::Claimed, [false, true]),
-        turn(1, Turned::Claimed, [false, true]),
-        turn(1, Turned::Filled, [false, true]),
-        turn(1, Turned::Filled, [false, false]),
-        turn(1, Turned::NotReady, [false, false]),
-    ];
-    let first = [
-        Entry::Claimed { q: 20, p: at(2, 4) },
-        Entry::Filled {
-            q: 20,
-            p: at(2, 4),
-            cell: cell(1, 11, Value::One)?,
-        },
-    ];
-    let second = [
-        Entry::Claimed { q: 10, p: at(1, 5) },
-        Entry::Dropped { q: 10, p: at(1, 5) },
-        Entry::Claimed { q: 20, p: at(1, 5) },
-        Entry::Filled {
-            q: 20,
-            p: at(1, 5),
-            cell: cell(2, 11, Value::One)?,
-        },
-    ];
-    assert_turns(&rt, rt.alloc(), &scene, &turns, [&first, &second])
+        (1, Turned::Claimed, [false, true]),
+        (1, Turned::Claimed, [false, true]),
+        (1, Turned::Filled, [false, true]),
+        (1, Turned::Filled, [false, false]),
+        (1, Turned::NotReady, [false, false]),
+    ],
+    journals: [
+        &[
+            Line::Claimed(20, 2, 4),
+            Line::Filled(20, 2, 4, (1, 11, Value::One)),
+        ],
+        &[
+            Line::Claimed(10, 1, 5),
+            Line::Dropped(10, 1, 5),
+            Line::Claimed(20, 1, 5),
+            Line::Filled(20, 1, 5, (2, 11, Value::One)),
+        ],
+    ],
+};
+
+#[test]
+fn a_strand_waits_until_a_claim_is_dropped(rt: HostRuntime) -> Result<(), Fail> {
+    assert_eq!(rt; first_wrong(rt.alloc(), &A_DROPPED_CLAIM)?, None);
+    Ok(())
 }
 
 // The same chain. a is 0 from 0 on and 1 from 4 on, so n1 is 0 from 1 on and 1 from 5 on, and n2 is 0 from 2 on and 1 from 6 on.
-#[test]
-fn a_strand_waits_until_a_point_is_filled(rt: HostRuntime) -> Result<(), Fail> {
-    let scene = Scene {
+static A_FILLED_POINT: Story = Story {
+    scene: Scene {
         netlist: "INPUT(a)\nOUTPUT(n2)\nn1 = BUFF(a)\nn2 = BUFF(n1)\n",
         stimulus: "horizon 10\nset a 0 0\nset a 4 1\n",
         queries: [
@@ -402,51 +432,42 @@ fn a_strand_waits_until_a_point_is_filled(rt: HostRuntime) -> Result<(), Fail> {
                 budget: 2,
             },
         ],
-    };
-    let turns = [
-        turn(0, Turned::Claimed, [true, true]),
-        turn(1, Turned::Waits, [true, false]),
+    },
+    turns: &[
+        (0, Turned::Claimed, [true, true]),
+        (1, Turned::Waits, [true, false]),
         // n1 at 4
-        turn(0, Turned::Claimed, [true, false]),
-        turn(1, Turned::NotReady, [true, false]),
-        turn(0, Turned::Filled, [true, false]),
+        (0, Turned::Claimed, [true, false]),
+        (1, Turned::NotReady, [true, false]),
+        (0, Turned::Filled, [true, false]),
         // n2 at 5: the strand 0 ends, and the strand 1 hears the cell without a turn
-        turn(0, Turned::Filled, [false, true]),
-        turn(0, Turned::NotReady, [false, true]),
+        (0, Turned::Filled, [false, true]),
+        (0, Turned::NotReady, [false, true]),
         // n2 at 6, and then n1 at 5
-        turn(1, Turned::Claimed, [false, true]),
-        turn(1, Turned::Claimed, [false, true]),
-        turn(1, Turned::Filled, [false, true]),
-        turn(1, Turned::Filled, [false, false]),
-        turn(1, Turned::NotReady, [false, false]),
-    ];
-    let first = [
-        Entry::Claimed { q: 10, p: at(2, 4) },
-        Entry::Filled {
-            q: 10,
-            p: at(2, 4),
-            cell: cell(1, 5, Value::Zero)?,
-        },
-        Entry::Claimed { q: 20, p: at(2, 5) },
-        Entry::Filled {
-            q: 20,
-            p: at(2, 5),
-            cell: cell(5, 11, Value::One)?,
-        },
-    ];
-    let second = [
-        Entry::Claimed { q: 10, p: at(1, 5) },
-        Entry::Filled {
-            q: 10,
-            p: at(1, 5),
-            cell: cell(2, 6, Value::Zero)?,
-        },
-        Entry::Claimed { q: 20, p: at(1, 6) },
-        Entry::Filled {
-            q: 20,
-            p: at(1, 6),
-            cell: cell(6, 11, Value::One)?,
-        },
-    ];
-    assert_turns(&rt, rt.alloc(), &scene, &turns, [&first, &second])
+        (1, Turned::Claimed, [false, true]),
+        (1, Turned::Claimed, [false, true]),
+        (1, Turned::Filled, [false, true]),
+        (1, Turned::Filled, [false, false]),
+        (1, Turned::NotReady, [false, false]),
+    ],
+    journals: [
+        &[
+            Line::Claimed(10, 2, 4),
+            Line::Filled(10, 2, 4, (1, 5, Value::Zero)),
+            Line::Claimed(20, 2, 5),
+            Line::Filled(20, 2, 5, (5, 11, Value::One)),
+        ],
+        &[
+            Line::Claimed(10, 1, 5),
+            Line::Filled(10, 1, 5, (2, 6, Value::Zero)),
+            Line::Claimed(20, 1, 6),
+            Line::Filled(20, 1, 6, (6, 11, Value::One)),
+        ],
+    ],
+};
+
+#[test]
+fn a_strand_waits_until_a_point_is_filled(rt: HostRuntime) -> Result<(), Fail> {
+    assert_eq!(rt; first_wrong(rt.alloc(), &A_FILLED_POINT)?, None);
+    Ok(())
 }

@@ -13,8 +13,8 @@ use Rattle.proof_check.specs.Changes.{ChangesFiles, CountsFaults}
 use Rattle.proof_check.specs.inner.Judged.{ReadsAll, IsOther, Gives, IsJudged, EndsStopped, IsDue, HasLine, Judges}
 use Rattle.proof_check.specs.declared.judging.Verdict.{Verdict}
 use Rattle.proof_check.specs.declared.reading.Inputs.{Inputs}
-use Rattle.proof_check.specs.declared.reading.Stop.{Stop}
-use Rattle.proof_check.specs.declared.reading.Stop.TheVariants as stops
+use Rattle.proof_check.specs.declared.reading.CheckStop.{CheckStop}
+use Rattle.proof_check.specs.declared.reading.CheckStop.TheVariants as stops
 use Rattle.proof_check.specs.declared.status.CheckStatus.{CheckStatus}
 use Rattle.proof_check.specs.declared.status.CheckStatus.TheVariants.{Yes, Refused, ReadFault, FileFault, OutOfMemory, No, Words, WriteFault}
 use Rattle.std.proofs.Math.Seq.{take-length}
@@ -74,7 +74,7 @@ read-judged names old new inputs (Ok verdict) reads gives =
     }
 
 -- it was not
-pub stop-judged : (names : Names) (old new : FilesState) (stop : Stop) (result : Result Verdict CheckStatus) → ReadsAll names old new (Err stop) → EndsStopped stop result → Judges names old new result
+pub stop-judged : (names : Names) (old new : FilesState) (stop : CheckStop) (result : Result Verdict CheckStatus) → ReadsAll names old new (Err stop) → EndsStopped stop result → Judges names old new result
 stop-judged names old new (stops.Refused refusal) (Ok verdict) reads ends = record {
   holds = λ given are yes. absurd (let is : Refused ≡ Yes = sym ends.0 ∙ yes in cc);
   due = λ given proof are. rw (ends.0, ends.1) (reads.right given proof are);

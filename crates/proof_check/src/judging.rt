@@ -4,7 +4,7 @@ ghost use Rattle.std.specs.Prelude.{◌≤◌, length};
 ghost use Rattle.proof_check.specs.inner.Judged.{IsJudged, EndsStopped};
 
 use crate::lines::{bad_line, no_line, yes_line};
-use crate::reading::Stop;
+use crate::reading::CheckStop;
 use crate::status::CheckStatus;
 use design::Design;
 use std::alloc::Global;
@@ -47,16 +47,16 @@ pub fn verdict_of(alloc: Global, design: &Design, text: &[u8]) -> Result<Verdict
 }
 
 /// The verdict where no proof was read: a refusal. After a fault, or for lack of memory, there is none.
-pub fn verdict_on_stop(alloc: Global, stop: Stop) -> Result<Verdict, CheckStatus>
+pub fn verdict_on_stop(alloc: Global, stop: CheckStop) -> Result<Verdict, CheckStatus>
     ensures { EndsStopped stop result }
 {
     match stop {
-        Stop::Refused(refusal) => Ok(Verdict {
+        CheckStop::Refused(refusal) => Ok(Verdict {
             status: CheckStatus::Refused,
             line: refusal.line(alloc)?,
         }),
-        Stop::NotOpened => Err(CheckStatus::FileFault),
-        Stop::Unread => Err(CheckStatus::ReadFault),
-        Stop::OutOfMemory => Err(CheckStatus::OutOfMemory),
+        CheckStop::NotOpened => Err(CheckStatus::FileFault),
+        CheckStop::Unread => Err(CheckStatus::ReadFault),
+        CheckStop::OutOfMemory => Err(CheckStatus::OutOfMemory),
     }
 }

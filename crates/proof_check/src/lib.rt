@@ -38,8 +38,6 @@ mod judging;
 mod lines;
 mod reading;
 mod status;
-#[cfg(test)]
-mod tests;
 
 pub use checking::check;
 pub use status::CheckStatus;

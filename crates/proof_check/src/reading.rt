@@ -35,35 +35,35 @@ impl Refusal {
 
 /// Why a proof is not judged.
 #[derive(Clone, Copy, Debug, PartialEq, Eq)]
-pub enum Stop {
+pub enum CheckStop {
     Refused(Refusal),
     NotOpened,
     Unread,
     OutOfMemory,
 }
 
-impl From<FilesStop> for Stop {
+impl From<FilesStop> for CheckStop {
     ghost from_gives = { λ given stop. stop ≡ stop_of given };
 
-    fn from(given: FilesStop) -> Stop {
+    fn from(given: FilesStop) -> CheckStop {
         match given {
-            FilesStop::Refused(refusal) => Stop::Refused(Refusal::OfFiles(refusal)),
-            FilesStop::NotOpened(_) => Stop::NotOpened,
-            FilesStop::Unread(_) => Stop::Unread,
-            FilesStop::OutOfMemory => Stop::OutOfMemory,
+            FilesStop::Refused(refusal) => CheckStop::Refused(Refusal::OfFiles(refusal)),
+            FilesStop::NotOpened(_) => CheckStop::NotOpened,
+            FilesStop::Unread(_) => CheckStop::Unread,
+            FilesStop::OutOfMemory => CheckStop::OutOfMemory,
         }
     }
 }
 
-impl From<ReadFile> for Stop {
+impl From<ReadFile> for CheckStop {
     ghost from_gives = { λ given stop. stop ≡ proof_stop given };
 
-    fn from(given: ReadFile) -> Stop {
+    fn from(given: ReadFile) -> CheckStop {
         match given {
-            ReadFile::NotOpened => Stop::NotOpened,
-            ReadFile::Failed => Stop::Unread,
-            ReadFile::TooLong => Stop::Refused(Refusal::ProofTooLong),
-            ReadFile::OutOfMemory => Stop::OutOfMemory,
+            ReadFile::NotOpened => CheckStop::NotOpened,
+            ReadFile::Failed => CheckStop::Unread,
+            ReadFile::TooLong => CheckStop::Refused(Refusal::ProofTooLong),
+            ReadFile::OutOfMemory => CheckStop::OutOfMemory,
         }
     }
 }
@@ -83,7 +83,7 @@ pub fn read_all<F: Files>(
     stimulus: &str,
     proof: &str,
     files: &mut F,
-) -> Result<Inputs, Stop>
+) -> Result<Inputs, CheckStop>
     requires { (F.state files.old).started ≡ 0 }
     ensures reads { ReadsAll (names_of netlist.now timing.now stimulus.now proof.now)
         (F.state files.old) (F.state files.new) result }

@@ -175,6 +175,3 @@ impl<T: Drop> ReadyQueue<T> {
         self.queue.pop_as::<Popped, R>(rt, &mut pass.pass)
     }
 }
-
-#[cfg(test)]
-mod tests;

@@ -15,7 +15,7 @@ use Rattle.gate_values.specs.declared.Value.{Value}
 use Rattle.stimulus_file.specs.declared.NumberedSet.{NumberedSet}
 use Rattle.stimulus_file.specs.declared.names.Names.{Names}
 use Rattle.stimulus_file.specs.Named.{named_rows, HavePlaces}
-use Rattle.stimulus_file.specs.inner.Kept.{is_at, key_cmp, name_cmp, AreLatest, ArePlaces, IsPlace, StandsAt, HasNames, HasSeen, Finds, Tells}
+use Rattle.stimulus_file.specs.inner.KeptSettings.{is_at, key_cmp, name_cmp, AreLatest, ArePlaces, IsPlace, StandsAt, HasNames, HasSeen, Finds, Tells}
 use Rattle.stimulus_file.proofs.Naming.{both, swapped, beyond, named_more, places_more, place_new, places_first, latest_push, grows_more, grows_at, reaches, long_as, with_time, is_later as later_at}
 
 module _ (old new : Names) (sets : List NumberedSet) (q : Bor (List ℕ)) (time : ℕ) (has : HasNames old sets) where

@@ -4,7 +4,7 @@ use Rattle.text_rules.specs.Text.{lines}
 use Rattle.line_faults.specs.declared.causes.LineFault.{LineFault}
 use Rattle.line_faults.specs.Faults.{first_fault}
 use Rattle.stimulus_file.specs.declared.StimulusCause.{StimulusCause}
-use Rattle.stimulus_file.specs.declared.reader.Reader.{Reader}
+use Rattle.stimulus_file.specs.declared.reader.StimulusReader.{StimulusReader}
 use Rattle.stimulus_file.specs.Causes.{out_of_memory}
 use Rattle.stimulus_file.specs.Forms.{line_of}
 use Rattle.stimulus_file.specs.Stimulus.{cause_of, stimulus_of, horizon_of, with_horizon}
@@ -17,7 +17,7 @@ unfolding stimulus_of
 fault_answers text fault (inl memory) = inl memory
 fault_answers text fault (inr first) = inr (rw first refl)
 
-pub said : (text : List ℕ) (r : Reader) (o : Option ℕ) → (first_fault cause_of [] (map line_of (lines text)) ≡ None) × HasRead (map line_of (lines text)) r → r.horizon ≡ o → stimulus_of text ≡ with_horizon o (named_rows r.names.texts.items r.sets.items)
+pub said : (text : List ℕ) (r : StimulusReader) (o : Option ℕ) → (first_fault cause_of [] (map line_of (lines text)) ≡ None) × HasRead (map line_of (lines text)) r → r.horizon ≡ o → stimulus_of text ≡ with_horizon o (named_rows r.names.texts.items r.sets.items)
 unfolding stimulus_of
 said text r o read is =
     let all = map line_of (lines text) in

@@ -13,7 +13,7 @@ use Rattle.stimulus_file.specs.declared.NumberedSet.{NumberedSet}
 use Rattle.stimulus_file.specs.Forms.{Line, Blank, Other, Horizon, Setting}
 use Rattle.stimulus_file.specs.Stimulus.{SetRow, sets, row_of}
 use Rattle.stimulus_file.specs.Named.{named_rows, HavePlaces}
-use Rattle.stimulus_file.specs.inner.Kept.{is_at, AreLatest, IsPlace, StandsAt}
+use Rattle.stimulus_file.specs.inner.KeptSettings.{is_at, AreLatest, IsPlace, StandsAt}
 
 pub is_false : (b : Bool) → (b ≡ true → ⊥) → b ≡ false
 is_false true never = absurd (never refl)

@@ -10,11 +10,11 @@ use Rattle.gate_values.specs.declared.Value.{Value}
 use Rattle.line_faults.proofs.Rows.{rows-push}
 use Rattle.stimulus_file.specs.declared.names.Found.{Found}
 use Rattle.stimulus_file.specs.declared.names.Names.{Names}
-use Rattle.stimulus_file.specs.declared.reader.Reader.{Reader}
+use Rattle.stimulus_file.specs.declared.reader.StimulusReader.{StimulusReader}
 use Rattle.stimulus_file.specs.Forms.{Line, Blank, Horizon, Setting}
 use Rattle.stimulus_file.specs.Stimulus.{SetRow, is_blank, is_horizon, sets, cause_of, stated_horizon, row_of, rows_of}
 use Rattle.stimulus_file.specs.Named.{with_name, named_rows}
-use Rattle.stimulus_file.specs.inner.Kept.{is_at, then_at, HasNames, HasSeen, Finds}
+use Rattle.stimulus_file.specs.inner.KeptSettings.{is_at, then_at, HasNames, HasSeen, Finds}
 use Rattle.stimulus_file.specs.inner.Reading.{HasRead}
 use Rattle.stimulus_file.proofs.Naming.{sets_at, rows_set, named_any}
 
@@ -27,7 +27,7 @@ is_some-not None b h = ap not h
 is_some-not (Some x) b h = ap not h
 
 -- a line that states no horizon, and isn't blank, after one that does
-pub horizon_step : (before : List Line) (r : Reader) (h : ℕ) → HasRead before r → is_some r.horizon ≡ false → (cause_of before (Horizon (Some h)) ≡ None) × HasRead (before ++ Horizon (Some h) ∷ []) (record r { horizon = Some h })
+pub horizon_step : (before : List Line) (r : StimulusReader) (h : ℕ) → HasRead before r → is_some r.horizon ≡ false → (cause_of before (Horizon (Some h)) ≡ None) × HasRead (before ++ Horizon (Some h) ∷ []) (record r { horizon = Some h })
 horizon_step before r h read none =
     let none-is : r.horizon ≡ None = none_is r.horizon none in (
       rw (read.horizon_line, none) refl,
@@ -42,7 +42,7 @@ horizon_step before r h read none =
     )
 
 -- a blank line
-pub blank_step : (before : List Line) (r : Reader) → HasRead before r → HasRead (before ++ Blank ∷ []) r
+pub blank_step : (before : List Line) (r : StimulusReader) → HasRead before r → HasRead (before ++ Blank ∷ []) r
 blank_step before r read = record {
   horizon = flat_map-append stated_horizon before (Blank ∷ []) ∙ append-nil (flat_map stated_horizon before) ∙ read.horizon;
   blank = list_all-append is_blank before (Blank ∷ []) ∙ and-true (list_all is_blank before) ∙ read.blank;
@@ -53,13 +53,13 @@ blank_step before r read = record {
 }
 
 -- a line that sets a name at a time has the cause for which the settings tell that it does so again
-pub set_before : (before : List Line) (r : Reader) (names : Names) (found : Found) (name : List ℕ) (t : ℕ) → HasRead before r → Finds r.names names r.sets.items name t found
+pub set_before : (before : List Line) (r : StimulusReader) (names : Names) (found : Found) (name : List ℕ) (t : ℕ) → HasRead before r → Finds r.names names r.sets.items name t found
     → list_any (sets name t) before ≡ list_any (is_at found.place t) r.sets.items
 set_before before r names found name t read f =
     rows_set name t 1 before ∙ ap (list_any (sets_at name t)) (sym (f.same ∙ read.rows)) ∙ named_any names.texts.items r.sets.items name found.place t f.placed f.place
 
 -- a line that sets a name at a time for the first time
-pub setting_step : (before : List Line) (r new : Reader) (found : Found) (name : List ℕ) (t line : ℕ) (value : Value) → HasRead before r → length before + 1 ≡ line
+pub setting_step : (before : List Line) (r new : StimulusReader) (found : Found) (name : List ℕ) (t line : ℕ) (value : Value) → HasRead before r → length before + 1 ≡ line
     → is_none r.horizon ≡ false → new.horizon ≡ r.horizon → Finds r.names new.names r.sets.items name t found
     → list_any (is_at found.place t) r.sets.items ≡ false → then_at r.sets.items found.place t (HasSeen new.seen)
     → new.sets.items ≡ r.sets.items ++ record { line = line; name = found.place; time = t; value = value } ∷ []
@@ -83,5 +83,5 @@ setting_step before r new found name t line value read line-is some same f fresh
 pub states : {X : Type 0} (o : Option X) (b : Bool) → is_some o ≡ not b → b ≡ false → is_none o ≡ false
 states o b h e = ap not h ∙ ap (λ (x : Bool). not (not x)) e
 
-pub blank_gives : (before : List Line) (r : Reader) (line : Line) → line ≡ Blank → HasRead before r → (cause_of before line ≡ None) × HasRead (before ++ line ∷ []) r
+pub blank_gives : (before : List Line) (r : StimulusReader) (line : Line) → line ≡ Blank → HasRead before r → (cause_of before line ≡ None) × HasRead (before ++ line ∷ []) r
 blank_gives before r line is read = subst (λ (l : Line). (cause_of before l ≡ None) × HasRead (before ++ l ∷ []) r) (sym is) (refl, blank_step before r read)

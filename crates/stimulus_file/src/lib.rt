@@ -185,6 +185,3 @@ impl Stimulus {
         }
     }
 }
-
-#[cfg(test)]
-mod tests;

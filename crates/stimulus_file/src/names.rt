@@ -2,7 +2,7 @@
 
 ghost use Rattle.std.specs.Prelude.{◌≡◌, ◌<◌, ◌&&◌, [], List, length, nat_lt, if◌then◌else◌, slice_index_or, slice_set, IfOk, IfSome};
 ghost use Rattle.stimulus_file.specs.declared.NumberedSet.{NumberedSet as Numbered};
-ghost use Rattle.stimulus_file.specs.inner.Kept.{ArePlaces, Finds, HasNames, StandsAt};
+ghost use Rattle.stimulus_file.specs.inner.KeptSettings.{ArePlaces, Finds, HasNames, StandsAt};
 
 use owned_text::{OutOfMemory, Text};
 use std::alloc::Global;

@@ -17,7 +17,7 @@ use std::alloc::Global;
 
 /// What is known after some lines.
 #[derive(Drop)]
-pub struct Reader<'a> {
+pub struct StimulusReader<'a> {
     pub horizon: Option<u32>,
     pub names: Names<'a>,
     pub sets: Vec<NumberedSet>,
@@ -25,7 +25,7 @@ pub struct Reader<'a> {
     pub seen: Option<Seen>,
 }
 
-fn take_horizon(reader: &mut Reader, number: u32, horizon: u32) -> Result<(), StimulusFault>
+fn take_horizon(reader: &mut StimulusReader, number: u32, horizon: u32) -> Result<(), StimulusFault>
     ensures { Reads reader.old reader.new number (Horizon (Some horizon)) result }
 {
     if reader.horizon.is_some() {
@@ -37,7 +37,7 @@ fn take_horizon(reader: &mut Reader, number: u32, horizon: u32) -> Result<(), St
 
 fn take_setting<'a>(
     alloc: Global,
-    reader: &mut Reader<'a>,
+    reader: &mut StimulusReader<'a>,
     number: u32,
     name: &'a [u8],
     time: u32,
@@ -63,7 +63,7 @@ fn take_setting<'a>(
 
 fn take_form<'a>(
     alloc: Global,
-    reader: &mut Reader<'a>,
+    reader: &mut StimulusReader<'a>,
     number: u32,
     form: Form<'a>,
 ) -> Result<(), StimulusFault>
@@ -87,7 +87,7 @@ fn take_form<'a>(
     }
 }
 
-impl<'a> LineReader<'a> for Reader<'a> {
+impl<'a> LineReader<'a> for StimulusReader<'a> {
     ghost use Rattle.stimulus_file.specs.Forms as forms;
     ghost use Rattle.stimulus_file.specs.Stimulus as content;
     ghost use Rattle.stimulus_file.specs.inner.Reading as reading;
@@ -112,14 +112,14 @@ pub fn read_stimulus(alloc: Global, text: &[u8]) -> Result<Stimulus, StimulusFau
     requires { length text.now ≤ 67108864 }
     ensures { Answers OutOfMemory result (stimulus_of text.now) }
 {
-    let empty = Reader {
+    let empty = StimulusReader {
         horizon: None,
         names: Names::new(alloc),
         sets: Vec::new(alloc),
         seen: None,
     };
     let reader = read_lines(alloc, empty, text)?;
-    let Reader {
+    let StimulusReader {
         horizon,
         names,
         sets,

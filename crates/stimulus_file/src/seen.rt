@@ -4,7 +4,7 @@ ghost use Rattle.std.specs.Prelude.{◌≡◌, IfOk, map, true, false};
 ghost use Rattle.std.specs.BTreeSet.{IsFromIterResult};
 ghost use Rattle.std.specs.List.{list_any};
 ghost use Rattle.stimulus_file.specs.declared.NumberedSet.{NumberedSet as Numbered};
-ghost use Rattle.stimulus_file.specs.inner.Kept.{HasSeen, Tells, is_at, key_cmp};
+ghost use Rattle.stimulus_file.specs.inner.KeptSettings.{HasSeen, Tells, is_at, key_cmp};
 
 use crate::NumberedSet;
 use crate::names::Found;

@@ -11,8 +11,8 @@ pub record AreNames (bytes : List ℕ) (n : ℕ) : Type 0 where
   pub within : n ≤ length bytes
   pub each : (k : ℕ) → k < n → ends (get_or bytes k 0) ≡ false
 
-pub one_more : (bytes : List ℕ) (n m : ℕ) → m ≡ n + 1 → AreNames bytes n → n < length bytes → is_name_byte (get_or bytes n 0) ≡ true → AreNames bytes m
-one_more bytes n m next h room is = record {
+pub name_goes_on : (bytes : List ℕ) (n m : ℕ) → m ≡ n + 1 → AreNames bytes n → n < length bytes → is_name_byte (get_or bytes n 0) ≡ true → AreNames bytes m
+name_goes_on bytes n m next h room is = record {
   within = omega (arith, next, room);
   each = λ k lt. elim (cases_eq k n) [ inl same ↦ rw (same, is) refl | inr other ↦ h.each k (below k lt other) ];
 }

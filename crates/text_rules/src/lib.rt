@@ -50,6 +50,3 @@ pub enum Amount {
     /// The number is this one, at most the limit.
     Within(u32),
 }
-
-#[cfg(test)]
-mod tests;

@@ -5,11 +5,11 @@ use Rattle.std.specs.List.{list_any}
 use Rattle.std.specs.Ordering.{is_eq}
 use Rattle.std.specs.BTreeSet.{BTreeSet, contains}
 use Rattle.std.proofs.lemmas.Cmp.{eq_by_cmp_equiv}
-use Rattle.timing_file.specs.declared.entry.Subject.{Subject}
-use Rattle.timing_file.specs.declared.entry.Subject.TheVariants as keys
-use Rattle.timing_file.specs.contracts.entry.SubjectPartialEq.TheImpl.{eq-value}
-use Rattle.timing_file.specs.contracts.entry.SubjectOrd.TheImpl.{cmp-value}
-use Rattle.timing_file.specs.contracts.entry.SubjectOrd.TheImpl.Laws.{matches_eq-law, total-law}
+use Rattle.timing_file.specs.declared.statement.Subject.{Subject}
+use Rattle.timing_file.specs.declared.statement.Subject.TheVariants as keys
+use Rattle.timing_file.specs.contracts.statement.SubjectPartialEq.TheImpl.{eq-value}
+use Rattle.timing_file.specs.contracts.statement.SubjectOrd.TheImpl.{cmp-value}
+use Rattle.timing_file.specs.contracts.statement.SubjectOrd.TheImpl.Laws.{matches_eq-law, total-law}
 use Rattle.timing_file.specs.inner.Views.{is_alike}
 
 -- the derived equality is that of the subjects

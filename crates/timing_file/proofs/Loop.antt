@@ -4,7 +4,7 @@ use Rattle.text_rules.specs.Text.{lines}
 use Rattle.line_faults.specs.declared.causes.LineFault.{LineFault}
 use Rattle.line_faults.specs.Faults.{first_fault}
 use Rattle.timing_file.specs.declared.TimingCause.{TimingCause}
-use Rattle.timing_file.specs.declared.reader.Reader.{Reader}
+use Rattle.timing_file.specs.declared.reader.TimingReader.{TimingReader}
 use Rattle.timing_file.specs.Causes.{out_of_memory}
 use Rattle.timing_file.specs.Forms.{line_of}
 use Rattle.timing_file.specs.Timing.{cause_of, timing_of}
@@ -15,6 +15,6 @@ unfolding timing_of
 fault_answers text fault (inl memory) = inl memory
 fault_answers text fault (inr first) = inr (rw first refl)
 
-pub said : (text : List ℕ) (r : Reader) → (first_fault cause_of [] (map line_of (lines text)) ≡ None) × HasRead (map line_of (lines text)) r → timing_of text ≡ Ok r.stated
+pub said : (text : List ℕ) (r : TimingReader) → (first_fault cause_of [] (map line_of (lines text)) ≡ None) × HasRead (map line_of (lines text)) r → timing_of text ≡ Ok r.stated
 unfolding timing_of
 said text r read = rw (read.0, read.1.content) refl

@@ -23,9 +23,9 @@ use Rattle.timing_file.specs.declared.TimingRow.{TimingRow}
 use Rattle.timing_file.specs.declared.ClockRow.{ClockRow}
 use Rattle.timing_file.specs.declared.form.Reading.{Reading}
 use Rattle.timing_file.specs.declared.form.Reading.TheVariants.{NotNumbers, Outside, Inside}
-use Rattle.timing_file.specs.Forms.{Entry, CommonClock, NamedClock, Default, DefaultOf, DelayOf, InitOf, PinOf, ClockedBy, Line, Blank, Other, Version, Plain, Versioned, from_least, number_in, both, as_clock, delay_in, clock_in, pin_in, plain, versioned_line, version_line, default_line, default_of_kind, default_of_line, common_clock_line, delay_line, init_to, init_line, clocked_line, named_clock_line, pin_line, two_words, three_words, four_words, by_words, line_of}
+use Rattle.timing_file.specs.Forms.{Statement, CommonClock, NamedClock, Default, DefaultOf, DelayOf, InitOf, PinOf, ClockedBy, Line, Blank, Other, Version, Plain, Versioned, from_least, number_in, both, as_clock, delay_in, clock_in, pin_in, plain, versioned_line, version_line, default_line, default_of_kind, default_of_line, common_clock_line, delay_line, init_to, init_line, clocked_line, named_clock_line, pin_line, two_words, three_words, four_words, by_words, line_of}
 use Rattle.timing_file.specs.Subjects.{same_kind}
-use Rattle.timing_file.specs.Timing.{Content, Statement, clock_stated, default_stated, kind_stated, row_of, clock_row_of, kind_delay, default_of, cause_of, stated_at, statements_at, statements_of, content_from, content_of, timing_of}
+use Rattle.timing_file.specs.Timing.{Content, NumberedStatement, clock_stated, default_stated, kind_stated, row_of, clock_row_of, kind_delay, default_of, cause_of, stated_at, statements_at, statements_of, content_from, content_of, timing_of}
 use Rattle.timing_file.specs.Ranges.{IsDelay, IsWithin, IsTiming}
 
 abbrev IsRead : {T : Type 0} → (T → Type 0) → Reading T → Type 0
@@ -68,40 +68,40 @@ clock-within first period = cases (both (number_in 0 1000000 first) (number_in 1
 pin-within : (place delay : List ℕ) → IsRead (λ numbers. IsBetween 0 63 numbers.0 × IsDelay numbers.1) (pin_in place delay)
 pin-within place delay = both-within (IsBetween 0 63) IsDelay (number_in 0 63 place) (delay_in delay) (number-within 0 63 place) (number-within 1 1000000 delay)
 
-abbrev IsEntry : Entry → Type 0
-IsEntry (CommonClock clock) = IsClock clock
-IsEntry (NamedClock name clock) = IsClock clock
-IsEntry (Default delay) = IsDelay delay
-IsEntry (DefaultOf kind delay) = IsDelay delay
-IsEntry (DelayOf name delay) = IsDelay delay
-IsEntry (InitOf name value) = value ≢ Z
-IsEntry (PinOf name place delay) = IsBetween 0 63 place × IsDelay delay
-IsEntry (ClockedBy flop clock) = ⊤
+abbrev IsInRange : Statement → Type 0
+IsInRange (CommonClock clock) = IsClock clock
+IsInRange (NamedClock name clock) = IsClock clock
+IsInRange (Default delay) = IsDelay delay
+IsInRange (DefaultOf kind delay) = IsDelay delay
+IsInRange (DelayOf name delay) = IsDelay delay
+IsInRange (InitOf name value) = value ≢ Z
+IsInRange (PinOf name place delay) = IsBetween 0 63 place × IsDelay delay
+IsInRange (ClockedBy flop clock) = ⊤
 
-abbrev IsStated : Option Entry → Type 0
+abbrev IsStated : Option Statement → Type 0
 IsStated None = ⊤
-IsStated (Some entry) = IsEntry entry
+IsStated (Some statement) = IsInRange statement
 
 abbrev IsLine : Line → Type 0
 IsLine Blank = ⊤
 IsLine Other = ⊤
 IsLine Version = ⊤
-IsLine (Plain entry) = IsStated entry
-IsLine (Versioned entry) = IsStated entry
+IsLine (Plain statement) = IsStated statement
+IsLine (Versioned statement) = IsStated statement
 
 either : (b : Bool) (x y : Line) → IsLine x → IsLine y → IsLine (cond b x y)
 either true x y p q = p
 either false x y p q = q
 
-plain-within : {T : Type 0} (P : T → Type 0) (entry : T → Entry) (r : Reading T) → ((x : T) → P x → IsEntry (entry x)) → IsRead P r → IsLine (plain entry r)
-plain-within P entry NotNumbers f h = tt
-plain-within P entry Outside f h = tt
-plain-within P entry (Inside x) f h = f x h
+plain-within : {T : Type 0} (P : T → Type 0) (statement : T → Statement) (r : Reading T) → ((x : T) → P x → IsInRange (statement x)) → IsRead P r → IsLine (plain statement r)
+plain-within P statement NotNumbers f h = tt
+plain-within P statement Outside f h = tt
+plain-within P statement (Inside x) f h = f x h
 
-versioned-within : {T : Type 0} (P : T → Type 0) (entry : T → Entry) (r : Reading T) → ((x : T) → P x → IsEntry (entry x)) → IsRead P r → IsLine (versioned_line entry r)
-versioned-within P entry NotNumbers f h = tt
-versioned-within P entry Outside f h = tt
-versioned-within P entry (Inside x) f h = f x h
+versioned-within : {T : Type 0} (P : T → Type 0) (statement : T → Statement) (r : Reading T) → ((x : T) → P x → IsInRange (statement x)) → IsRead P r → IsLine (versioned_line statement r)
+versioned-within P statement NotNumbers f h = tt
+versioned-within P statement Outside f h = tt
+versioned-within P statement (Inside x) f h = f x h
 
 default_of_kind-within : (kind : Option Kind) (delay : List ℕ) → IsLine (default_of_kind kind delay)
 default_of_kind-within None delay = tt
@@ -164,29 +164,29 @@ line-within : (line : List ℕ) → IsLine (line_of line)
 unfolding line_of
 line-within line = words-within (words (content line))
 
-stated-within : (n : ℕ) (entry : Option Entry) → IsStated entry → All (λ s. IsEntry s.entry) (stated_at n entry)
-stated-within n None h = All-nil (λ s. IsEntry s.entry)
-stated-within n (Some entry) h = All-cons (λ s. IsEntry s.entry) (record { line = n; entry = entry }) [] h (All-nil (λ s. IsEntry s.entry))
+stated-within : (n : ℕ) (statement : Option Statement) → IsStated statement → All (λ s. IsInRange s.statement) (stated_at n statement)
+stated-within n None h = All-nil (λ s. IsInRange s.statement)
+stated-within n (Some statement) h = All-cons (λ s. IsInRange s.statement) (record { line = n; statement = statement }) [] h (All-nil (λ s. IsInRange s.statement))
 
-at-within : (n : ℕ) (line : Line) → IsLine line → All (λ s. IsEntry s.entry) (statements_at n line)
-at-within n Blank h = All-nil (λ s. IsEntry s.entry)
-at-within n Other h = All-nil (λ s. IsEntry s.entry)
-at-within n Version h = All-nil (λ s. IsEntry s.entry)
-at-within n (Plain entry) h = stated-within n entry h
-at-within n (Versioned entry) h = stated-within n entry h
+at-within : (n : ℕ) (line : Line) → IsLine line → All (λ s. IsInRange s.statement) (statements_at n line)
+at-within n Blank h = All-nil (λ s. IsInRange s.statement)
+at-within n Other h = All-nil (λ s. IsInRange s.statement)
+at-within n Version h = All-nil (λ s. IsInRange s.statement)
+at-within n (Plain statement) h = stated-within n statement h
+at-within n (Versioned statement) h = stated-within n statement h
 
-statements-within : (n : ℕ) (all : List (List ℕ)) → All (λ s. IsEntry s.entry) (rows_from statements_at n (map line_of all))
-statements-within n [] = All-nil (λ s. IsEntry s.entry)
-statements-within n (line ∷ all) = All-append (λ s. IsEntry s.entry) (statements_at n (line_of line)) (rows_from statements_at (n + 1) (map line_of all)) (at-within n (line_of line) (line-within line)) (statements-within (n + 1) all)
+statements-within : (n : ℕ) (all : List (List ℕ)) → All (λ s. IsInRange s.statement) (rows_from statements_at n (map line_of all))
+statements-within n [] = All-nil (λ s. IsInRange s.statement)
+statements-within n (line ∷ all) = All-append (λ s. IsInRange s.statement) (statements_at n (line_of line)) (rows_from statements_at (n + 1) (map line_of all)) (at-within n (line_of line) (line-within line)) (statements-within (n + 1) all)
 
-flat_map-within : {Y : Type 0} (f : Statement → List Y) (P : Y → Type 0) → ((s : Statement) → IsEntry s.entry → All P (f s)) → (all : List Statement) → All (λ s. IsEntry s.entry) all → All P (flat_map f all)
+flat_map-within : {Y : Type 0} (f : NumberedStatement → List Y) (P : Y → Type 0) → ((s : NumberedStatement) → IsInRange s.statement → All P (f s)) → (all : List NumberedStatement) → All (λ s. IsInRange s.statement) all → All P (flat_map f all)
 flat_map-within f P each [] h = All-nil P
-flat_map-within f P each (s ∷ all) h = subst (All P) (sym (flat_map-cons f s all)) (All-append P (f s) (flat_map f all) (each s (All-head (λ s. IsEntry s.entry) s all h)) (flat_map-within f P each all (All-tail (λ s. IsEntry s.entry) s all h)))
+flat_map-within f P each (s ∷ all) h = subst (All P) (sym (flat_map-cons f s all)) (All-append P (f s) (flat_map f all) (each s (All-head (λ s. IsInRange s.statement) s all h)) (flat_map-within f P each all (All-tail (λ s. IsInRange s.statement) s all h)))
 
 one : {Y : Type 0} (P : Y → Type 0) (y : Y) → P y → All P (y ∷ [])
 one P y h = All-cons P y [] h (All-nil P)
 
-clock_stated-within : (e : Entry) → IsEntry e → All IsClock (clock_stated e)
+clock_stated-within : (e : Statement) → IsInRange e → All IsClock (clock_stated e)
 clock_stated-within (CommonClock clock) h = one IsClock clock h
 clock_stated-within (NamedClock name clock) h = All-nil IsClock
 clock_stated-within (Default delay) h = All-nil IsClock
@@ -196,7 +196,7 @@ clock_stated-within (InitOf name value) h = All-nil IsClock
 clock_stated-within (PinOf name place delay) h = All-nil IsClock
 clock_stated-within (ClockedBy flop clock) h = All-nil IsClock
 
-default_stated-within : (e : Entry) → IsEntry e → All IsDelay (default_stated e)
+default_stated-within : (e : Statement) → IsInRange e → All IsDelay (default_stated e)
 default_stated-within (CommonClock clock) h = All-nil IsDelay
 default_stated-within (NamedClock name clock) h = All-nil IsDelay
 default_stated-within (Default delay) h = one IsDelay delay h
@@ -209,7 +209,7 @@ default_stated-within (ClockedBy flop clock) h = All-nil IsDelay
 abbrev IsKind : Kind × ℕ → Type 0
 IsKind stated = IsDelay stated.1
 
-kind_stated-within : (e : Entry) → IsEntry e → All IsKind (kind_stated e)
+kind_stated-within : (e : Statement) → IsInRange e → All IsKind (kind_stated e)
 kind_stated-within (CommonClock clock) h = All-nil IsKind
 kind_stated-within (NamedClock name clock) h = All-nil IsKind
 kind_stated-within (Default delay) h = All-nil IsKind
@@ -222,7 +222,7 @@ kind_stated-within (ClockedBy flop clock) h = All-nil IsKind
 abbrev IsRow : TimingRow → Type 0
 IsRow row = IsWithin row.what
 
-row_of-within : (n : ℕ) (e : Entry) → IsEntry e → All IsRow (row_of n e)
+row_of-within : (n : ℕ) (e : Statement) → IsInRange e → All IsRow (row_of n e)
 row_of-within n (CommonClock clock) h = All-nil IsRow
 row_of-within n (NamedClock name clock) h = All-nil IsRow
 row_of-within n (Default delay) h = All-nil IsRow
@@ -235,7 +235,7 @@ row_of-within n (ClockedBy flop clock) h = one IsRow _ tt
 abbrev IsClockRow : ClockRow → Type 0
 IsClockRow row = IsClock row.clock
 
-clock_row_of-within : (n : ℕ) (e : Entry) → IsEntry e → All IsClockRow (clock_row_of n e)
+clock_row_of-within : (n : ℕ) (e : Statement) → IsInRange e → All IsClockRow (clock_row_of n e)
 clock_row_of-within n (CommonClock clock) h = All-nil IsClockRow
 clock_row_of-within n (NamedClock name clock) h = one IsClockRow _ h
 clock_row_of-within n (Default delay) h = All-nil IsClockRow
@@ -249,13 +249,13 @@ first-within : {Y : Type 0} (P : Y → Type 0) (l : List Y) → All P l → IfSo
 first-within P [] h = tt
 first-within P (y ∷ l) h = All-head P y l h
 
-content-within : (all : List Statement) → All (λ s. IsEntry s.entry) all → IsTiming (content_from all)
+content-within : (all : List NumberedStatement) → All (λ s. IsInRange s.statement) all → IsTiming (content_from all)
 content-within all h = record {
-  clock = first-within IsClock (flat_map (λ s. clock_stated s.entry) all) (flat_map-within (λ s. clock_stated s.entry) IsClock (λ s. clock_stated-within s.entry) all h);
-  default = first-within IsDelay (flat_map (λ s. default_stated s.entry) all) (flat_map-within (λ s. default_stated s.entry) IsDelay (λ s. default_stated-within s.entry) all h);
-  kinds = flat_map-within (λ s. kind_stated s.entry) IsKind (λ s. kind_stated-within s.entry) all h;
-  rows = flat_map-within (λ s. row_of s.line s.entry) IsRow (λ s. row_of-within s.line s.entry) all h;
-  clocks = flat_map-within (λ s. clock_row_of s.line s.entry) IsClockRow (λ s. clock_row_of-within s.line s.entry) all h;
+  clock = first-within IsClock (flat_map (λ s. clock_stated s.statement) all) (flat_map-within (λ s. clock_stated s.statement) IsClock (λ s. clock_stated-within s.statement) all h);
+  default = first-within IsDelay (flat_map (λ s. default_stated s.statement) all) (flat_map-within (λ s. default_stated s.statement) IsDelay (λ s. default_stated-within s.statement) all h);
+  kinds = flat_map-within (λ s. kind_stated s.statement) IsKind (λ s. kind_stated-within s.statement) all h;
+  rows = flat_map-within (λ s. row_of s.line s.statement) IsRow (λ s. row_of-within s.line s.statement) all h;
+  clocks = flat_map-within (λ s. clock_row_of s.line s.statement) IsClockRow (λ s. clock_row_of-within s.line s.statement) all h;
 }
 
 -- what a file says is in its ranges

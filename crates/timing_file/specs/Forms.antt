@@ -13,23 +13,23 @@ use Rattle.timing_file.specs.declared.form.Reading.{Reading}
 use Rattle.timing_file.specs.declared.form.Reading.TheVariants.{NotNumbers, Outside, Inside}
 
 -- what a line states, with its numbers in their ranges
-pub data Entry : Type 0 where
-  CommonClock : (clock : Clock) → Entry
-  NamedClock : (name : List ℕ) (clock : Clock) → Entry
-  Default : (delay : ℕ) → Entry
-  DefaultOf : (kind : Kind) (delay : ℕ) → Entry
-  DelayOf : (name : List ℕ) (delay : ℕ) → Entry
-  InitOf : (name : List ℕ) (value : Value) → Entry
-  PinOf : (name : List ℕ) (place delay : ℕ) → Entry
-  ClockedBy : (flop clock : List ℕ) → Entry
+pub data Statement : Type 0 where
+  CommonClock : (clock : Clock) → Statement
+  NamedClock : (name : List ℕ) (clock : Clock) → Statement
+  Default : (delay : ℕ) → Statement
+  DefaultOf : (kind : Kind) (delay : ℕ) → Statement
+  DelayOf : (name : List ℕ) (delay : ℕ) → Statement
+  InitOf : (name : List ℕ) (value : Value) → Statement
+  PinOf : (name : List ℕ) (place delay : ℕ) → Statement
+  ClockedBy : (flop clock : List ℕ) → Statement
 
--- a line by its form: of every file, or of a file of version 2; where a number is outside its range there is no entry
+-- a line by its form: of every file, or of a file of version 2; where a number is outside its range there is no statement
 pub data Line : Type 0 where
   Blank : Line
   Other : Line
   Version : Line
-  Plain : (entry : Option Entry) → Line
-  Versioned : (entry : Option Entry) → Line
+  Plain : (statement : Option Statement) → Line
+  Versioned : (statement : Option Statement) → Line
 
 abbrev pub from_least : ℕ → Amount → Reading ℕ
 from_least least NoNumber = NotNumbers
@@ -66,16 +66,16 @@ abbrev pub pin_in : List ℕ → List ℕ → Reading (ℕ × ℕ)
 pin_in place delay = both (number_in 0 63 place) (delay_in delay)
 
 -- a line of every file
-abbrev pub plain : {T : Type 0} → (T → Entry) → Reading T → Line
-plain entry NotNumbers = Other
-plain entry Outside = Plain None
-plain entry (Inside x) = Plain (Some (entry x))
+abbrev pub plain : {T : Type 0} → (T → Statement) → Reading T → Line
+plain statement NotNumbers = Other
+plain statement Outside = Plain None
+plain statement (Inside x) = Plain (Some (statement x))
 
 -- a line of a file of version 2
-abbrev pub versioned_line : {T : Type 0} → (T → Entry) → Reading T → Line
-versioned_line entry NotNumbers = Other
-versioned_line entry Outside = Versioned None
-versioned_line entry (Inside x) = Versioned (Some (entry x))
+abbrev pub versioned_line : {T : Type 0} → (T → Statement) → Reading T → Line
+versioned_line statement NotNumbers = Other
+versioned_line statement Outside = Versioned None
+versioned_line statement (Inside x) = Versioned (Some (statement x))
 
 -- `version 2`
 abbrev pub version_line : List ℕ → Line

@@ -3,8 +3,8 @@ use Rattle.std.specs.Prelude.{ℕ, Bool, true, false, ◌&&◌, ◌==◌, List}
 use Rattle.std.specs.Str.{bytes_eq}
 use Rattle.gate_values.specs.declared.Kind.{Kind}
 use Rattle.gate_values.specs.declared.Kind.TheVariants.{And, Nand, Or, Nor, Xor, Xnor, Not, Buff, Dff}
-use Rattle.timing_file.specs.Forms.{Entry}
-use Rattle.timing_file.specs.Forms as entries
+use Rattle.timing_file.specs.Forms.{Statement}
+use Rattle.timing_file.specs.Forms as statements
 
 pub data Subject : Type 0 where
   CommonClock : Subject
@@ -16,15 +16,15 @@ pub data Subject : Type 0 where
   PinOf : (name : List ℕ) (place : ℕ) → Subject
   ClockOf : (flop : List ℕ) → Subject
 
-abbrev pub subject_of : Entry → Subject
-subject_of (entries.CommonClock clock) = CommonClock
-subject_of (entries.NamedClock name clock) = NamedClock name
-subject_of (entries.Default delay) = Default
-subject_of (entries.DefaultOf kind delay) = DefaultOf kind
-subject_of (entries.DelayOf name delay) = DelayOf name
-subject_of (entries.InitOf name value) = InitOf name
-subject_of (entries.PinOf name place delay) = PinOf name place
-subject_of (entries.ClockedBy flop clock) = ClockOf flop
+abbrev pub subject_of : Statement → Subject
+subject_of (statements.CommonClock clock) = CommonClock
+subject_of (statements.NamedClock name clock) = NamedClock name
+subject_of (statements.Default delay) = Default
+subject_of (statements.DefaultOf kind delay) = DefaultOf kind
+subject_of (statements.DelayOf name delay) = DelayOf name
+subject_of (statements.InitOf name value) = InitOf name
+subject_of (statements.PinOf name place delay) = PinOf name place
+subject_of (statements.ClockedBy flop clock) = ClockOf flop
 
 abbrev pub same_kind : Kind → Kind → Bool
 same_kind And And = true

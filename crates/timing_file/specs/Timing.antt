@@ -12,7 +12,7 @@ use Rattle.timing_file.specs.declared.TimingCause.TheVariants.{Syntax, Range, Tw
 use Rattle.timing_file.specs.declared.TimingRow.{TimingRow}
 use Rattle.timing_file.specs.declared.TimingWhat.TheVariants.{Delay, Init, Pin, Clocked}
 use Rattle.timing_file.specs.declared.ClockRow.{ClockRow}
-use Rattle.timing_file.specs.Forms.{Entry, CommonClock, NamedClock, Default, DefaultOf, DelayOf, InitOf, PinOf, ClockedBy, Line, Blank, Other, Version, Plain, Versioned, line_of}
+use Rattle.timing_file.specs.Forms.{Statement, CommonClock, NamedClock, Default, DefaultOf, DelayOf, InitOf, PinOf, ClockedBy, Line, Blank, Other, Version, Plain, Versioned, line_of}
 use Rattle.timing_file.specs.Subjects.{same_kind, same_subject, subject_of}
 
 -- what the file says: the clock and the default without a name, the defaults of kinds, and the rows in the order of their lines
@@ -32,85 +32,85 @@ abbrev pub default_of : Content → Kind → ℕ
 default_of content kind = unwrap_or (kind_delay kind content.kinds) (unwrap_or content.default 1)
 
 -- what the line with this number states
-pub record Statement : Type 0 where
+pub record NumberedStatement : Type 0 where
   pub line : ℕ
-  pub entry : Entry
+  pub statement : Statement
 
-abbrev pub stated_at : ℕ → Option Entry → List Statement
+abbrev pub stated_at : ℕ → Option Statement → List NumberedStatement
 stated_at n None = []
-stated_at n (Some entry) = record { line = n; entry = entry } ∷ []
+stated_at n (Some statement) = record { line = n; statement = statement } ∷ []
 
-abbrev pub statements_at : ℕ → Line → List Statement
+abbrev pub statements_at : ℕ → Line → List NumberedStatement
 statements_at n Blank = []
 statements_at n Other = []
 statements_at n Version = []
-statements_at n (Plain entry) = stated_at n entry
-statements_at n (Versioned entry) = stated_at n entry
+statements_at n (Plain statement) = stated_at n statement
+statements_at n (Versioned statement) = stated_at n statement
 
 -- the statements of all lines, the first of which has the number 1
-abbrev pub statements_of : List Line → List Statement
+abbrev pub statements_of : List Line → List NumberedStatement
 statements_of all = rows_from statements_at 1 all
 
 abbrev pub is_blank : Line → Bool
 is_blank Blank = true
 is_blank Other = false
 is_blank Version = false
-is_blank (Plain entry) = false
-is_blank (Versioned entry) = false
+is_blank (Plain statement) = false
+is_blank (Versioned statement) = false
 
 abbrev pub is_version : Line → Bool
 is_version Blank = false
 is_version Other = false
 is_version Version = true
-is_version (Plain entry) = false
-is_version (Versioned entry) = false
+is_version (Plain statement) = false
+is_version (Versioned statement) = false
 
--- an earlier statement has the subject of this entry
-abbrev pub is_repeated : List Line → Entry → Bool
-is_repeated before entry = list_any (λ s. same_subject (subject_of entry) (subject_of s.entry)) (statements_of before)
+-- an earlier statement has the subject of this one
+abbrev pub is_repeated : List Line → Statement → Bool
+is_repeated before statement = list_any (λ s. same_subject (subject_of statement) (subject_of s.statement)) (statements_of before)
 
-abbrev pub cause_of_entry : List Line → Option Entry → Option TimingCause
-cause_of_entry before None = Some Range
-cause_of_entry before (Some entry) = if is_repeated before entry then Some Twice else None
+abbrev pub cause_of_statement : List Line → Option Statement → Option TimingCause
+cause_of_statement before None = Some Range
+cause_of_statement before (Some statement) = if is_repeated before statement then Some Twice else None
 
 -- the cause of a line after the lines before it, if it is at fault
 abbrev pub cause_of : List Line → Line → Option TimingCause
 cause_of before Blank = None
 cause_of before Other = Some Syntax
 cause_of before Version = if list_all is_blank before then None else Some Syntax
-cause_of before (Plain entry) = cause_of_entry before entry
-cause_of before (Versioned entry) = if list_any is_version before then cause_of_entry before entry else Some Syntax
+cause_of before (Plain statement) = cause_of_statement before statement
+cause_of before (Versioned statement) = if list_any is_version before then cause_of_statement before statement else Some Syntax
 
-abbrev pub clock_stated : Entry → List Clock
+abbrev pub clock_stated : Statement → List Clock
 clock_stated (CommonClock clock) = clock ∷ []
 clock_stated _ = []
 
-abbrev pub default_stated : Entry → List ℕ
+abbrev pub default_stated : Statement → List ℕ
 default_stated (Default delay) = delay ∷ []
 default_stated _ = []
 
-abbrev pub kind_stated : Entry → List (Kind × ℕ)
+abbrev pub kind_stated : Statement → List (Kind × ℕ)
 kind_stated (DefaultOf kind delay) = (kind, delay) ∷ []
 kind_stated _ = []
 
-abbrev pub row_of : ℕ → Entry → List TimingRow
+abbrev pub row_of : ℕ → Statement → List TimingRow
 row_of n (DelayOf name delay) = record { line = n; name = name; what = Delay delay } ∷ []
 row_of n (InitOf name value) = record { line = n; name = name; what = Init value } ∷ []
 row_of n (PinOf name place delay) = record { line = n; name = name; what = Pin place delay } ∷ []
 row_of n (ClockedBy flop clock) = record { line = n; name = flop; what = Clocked clock } ∷ []
 row_of n _ = []
 
-abbrev pub clock_row_of : ℕ → Entry → List ClockRow
+abbrev pub clock_row_of : ℕ → Statement → List ClockRow
 clock_row_of n (NamedClock name clock) = record { line = n; name = name; clock = clock } ∷ []
 clock_row_of n _ = []
 
-abbrev pub content_from : List Statement → Content
+abbrev pub content_from : List NumberedStatement → Content
 content_from all = record {
-  clock = slice_get (flat_map (λ s. clock_stated s.entry) all) 0;
-  default = slice_get (flat_map (λ s. default_stated s.entry) all) 0;
-  kinds = flat_map (λ s. kind_stated s.entry) all;
-  rows = flat_map (λ s. row_of s.line s.entry) all;
-  clocks = flat_map (λ s. clock_row_of s.line s.entry) all;
+  clock = slice_get (flat_map (λ s. clock_stated s.statement) all) 0;
+  default = slice_get (flat_map (λ s. default_stated s.statement) all) 0;
+  kinds = flat_map (λ s. kind_stated s.statement) all;
+  rows = flat_map (λ s. row_of s.line s.statement) all;
+  clocks = flat_map (λ s. clock_row_of s.line s.statement) all;
 }
 
 abbrev pub content_of : List Line → Content

@@ -6,7 +6,7 @@ ghost use Rattle.timing_file.specs.Forms as forms;
 ghost use Rattle.timing_file.specs.Forms.{line_of, number_in};
 ghost use Rattle.timing_file.specs.inner.Views.{line_seen};
 
-use crate::entry::Entry;
+use crate::statement::Statement;
 use flip_flops::Clock;
 use gate_values::{Kind, Value};
 use text_rules::{Amount, content, is_name, next_word, read_amount};
@@ -25,16 +25,16 @@ pub enum Reading<T> {
     Inside(T),
 }
 
-/// A line by its form. Where a number is outside its range, there is no entry.
+/// A line by its form. Where a number is outside its range, there is no statement.
 #[derive(Clone, Copy)]
 pub enum Form<'a> {
     Blank,
     Other,
     Version,
     /// A form of every file.
-    Plain(Option<Entry<'a>>),
+    Plain(Option<Statement<'a>>),
     /// A form of a file of version 2.
-    Versioned(Option<Entry<'a>>),
+    Versioned(Option<Statement<'a>>),
 }
 
 fn read_number(word: &[u8], least: u32, greatest: u32) -> Reading<u32>
@@ -100,7 +100,7 @@ fn default_form(delay: &[u8]) -> Form<'static>
     match read_delay(delay) {
         Reading::NotNumbers => Form::Other,
         Reading::Outside => Form::Plain(None),
-        Reading::Inside(delay) => Form::Plain(Some(Entry::Default(delay))),
+        Reading::Inside(delay) => Form::Plain(Some(Statement::Default(delay))),
     }
 }
 
@@ -114,7 +114,7 @@ fn default_of_form(kind: &[u8], delay: &[u8]) -> Form<'static>
     match read_delay(delay) {
         Reading::NotNumbers => Form::Other,
         Reading::Outside => Form::Plain(None),
-        Reading::Inside(delay) => Form::Plain(Some(Entry::DefaultOf(kind, delay))),
+        Reading::Inside(delay) => Form::Plain(Some(Statement::DefaultOf(kind, delay))),
     }
 }
 
@@ -124,7 +124,7 @@ fn common_clock_form(first: &[u8], period: &[u8]) -> Form<'static>
     match read_clock(first, period) {
         Reading::NotNumbers => Form::Other,
         Reading::Outside => Form::Plain(None),
-        Reading::Inside(clock) => Form::Plain(Some(Entry::CommonClock(clock))),
+        Reading::Inside(clock) => Form::Plain(Some(Statement::CommonClock(clock))),
     }
 }
 
@@ -137,7 +137,7 @@ fn delay_form<'a>(name: &'a [u8], delay: &[u8]) -> Form<'a>
     match read_delay(delay) {
         Reading::NotNumbers => Form::Other,
         Reading::Outside => Form::Plain(None),
-        Reading::Inside(delay) => Form::Plain(Some(Entry::DelayOf(name, delay))),
+        Reading::Inside(delay) => Form::Plain(Some(Statement::DelayOf(name, delay))),
     }
 }
 
@@ -150,7 +150,7 @@ fn init_form<'a>(name: &'a [u8], value: &[u8]) -> Form<'a>
     match Value::from_word(value) {
         None => Form::Other,
         Some(Value::Z) => Form::Other,
-        Some(value) => Form::Plain(Some(Entry::InitOf(name, value))),
+        Some(value) => Form::Plain(Some(Statement::InitOf(name, value))),
     }
 }
 
@@ -160,7 +160,7 @@ fn clocked_form<'a>(flop: &'a [u8], clock: &'a [u8]) -> Form<'a>
     if !is_name(flop) || !is_name(clock) {
         return Form::Other;
     }
-    Form::Versioned(Some(Entry::ClockedBy(flop, clock)))
+    Form::Versioned(Some(Statement::ClockedBy(flop, clock)))
 }
 
 fn named_clock_form<'a>(name: &'a [u8], first: &[u8], period: &[u8]) -> Form<'a>
@@ -172,7 +172,7 @@ fn named_clock_form<'a>(name: &'a [u8], first: &[u8], period: &[u8]) -> Form<'a>
     match read_clock(first, period) {
         Reading::NotNumbers => Form::Other,
         Reading::Outside => Form::Versioned(None),
-        Reading::Inside(clock) => Form::Versioned(Some(Entry::NamedClock(name, clock))),
+        Reading::Inside(clock) => Form::Versioned(Some(Statement::NamedClock(name, clock))),
     }
 }
 
@@ -185,7 +185,9 @@ fn pin_form<'a>(name: &'a [u8], place: &[u8], delay: &[u8]) -> Form<'a>
     match read_pin(place, delay) {
         Reading::NotNumbers => Form::Other,
         Reading::Outside => Form::Versioned(None),
-        Reading::Inside((place, delay)) => Form::Versioned(Some(Entry::PinOf(name, place, delay))),
+        Reading::Inside((place, delay)) => Form::Versioned(Some(Statement::PinOf(
+            name, place, delay,
+        ))),
     }
 }
 

@@ -44,14 +44,14 @@
 #![tactic(auto)]
 
 ghost use Rattle.std.specs.Prelude.{◌≡◌};
-ghost use Rattle.timing_file.specs.Timing as content;
+ghost use Rattle.timing_file.specs.Timing as timings;
 
-mod entry;
+mod content;
 mod form;
 mod reader;
-mod stated;
+mod statement;
 
-use crate::stated::Stated;
+use crate::content::TimingContent;
 use flip_flops::Clock;
 use gate_values::{Kind, Value};
 use line_faults::{LineCause, LineFault};
@@ -134,7 +134,7 @@ pub struct ClockRow {
 /// What a timing file says.
 #[derive(Drop)]
 pub struct Timing {
-    stated: Stated,
+    stated: TimingContent,
 }
 
 impl Model for Timing {
@@ -151,7 +151,7 @@ impl Model for Timing {
 impl Timing {
     ghost use Rattle.timing_file.specs.Ranges.{IsDelay, IsTiming};
 
-    fn new(stated: Stated) -> Timing
+    fn new(stated: TimingContent) -> Timing
         requires { IsTiming stated }
         ensures { result ≡ stated }
     {
@@ -176,7 +176,7 @@ impl Timing {
     /// flip-flops for `Kind::Dff`: that of the kind's line, else of the plain
     /// `default` line, else 1.
     pub fn default_of(&self, kind: Kind) -> u32
-        ensures stated { result ≡ content.default_of self.now kind }
+        ensures stated { result ≡ timings.default_of self.now kind }
         ensures within { IsDelay result }
     {
         self.stated.default_of(kind)
@@ -196,6 +196,3 @@ impl Timing {
         self.stated.clocks()
     }
 }
-
-#[cfg(test)]
-mod tests;

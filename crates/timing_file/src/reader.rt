@@ -7,12 +7,12 @@ ghost use Rattle.timing_file.specs.declared.TimingCause.TheVariants.{OutOfMemory
 ghost use Rattle.timing_file.specs.Causes.{out_of_memory};
 ghost use Rattle.timing_file.specs.Forms as forms;
 ghost use Rattle.timing_file.specs.Timing.{timing_of};
-ghost use Rattle.timing_file.specs.inner.Views.{line_seen, stated_seen, entry_seen};
-ghost use Rattle.timing_file.specs.inner.Reading.{AddsSubject, Reads, ReadsEntry, was_seen};
+ghost use Rattle.timing_file.specs.inner.Views.{line_seen, stated_seen, statement_seen};
+ghost use Rattle.timing_file.specs.inner.Reading.{AddsSubject, Reads, ReadsStatement, was_seen};
 
-use crate::entry::{Entry, Subject};
+use crate::content::TimingContent;
 use crate::form::{Form, form_of};
-use crate::stated::Stated;
+use crate::statement::{Statement, Subject};
 use crate::{Timing, TimingCause, TimingFault};
 use line_faults::{LineReader, fault, read_lines};
 use std::alloc::Global;
@@ -20,12 +20,12 @@ use std::collections::BTreeSet;
 
 /// What is known after some lines. The names in `seen` lie in the text.
 #[derive(Drop)]
-pub struct Reader<'a> {
+pub struct TimingReader<'a> {
     /// No line that isn't blank came so far.
     pub is_empty: bool,
     /// The first line that isn't blank is `version 2`.
     pub is_version_2: bool,
-    pub stated: Stated,
+    pub stated: TimingContent,
     pub seen: BTreeSet<Subject<'a>>,
 }
 
@@ -39,38 +39,38 @@ fn is_first<'a>(seen: &mut BTreeSet<Subject<'a>>, subject: Subject<'a>) -> Resul
     Ok(seen.insert(subject)?)
 }
 
-fn take_stated<'a>(
+fn take_in_range<'a>(
     alloc: Global,
-    reader: &mut Reader<'a>,
+    reader: &mut TimingReader<'a>,
     number: u32,
-    entry: Entry<'a>,
+    statement: Statement<'a>,
 ) -> Result<(), TimingFault>
-    ensures { ReadsEntry reader.old reader.new number (Option.Some (entry_seen entry.entry))
+    ensures { ReadsStatement reader.old reader.new number (Option.Some (statement_seen statement.entry))
         result }
 {
-    if !is_first(&mut reader.seen, entry.subject())? {
+    if !is_first(&mut reader.seen, statement.subject())? {
         return fault(TimingCause::Twice, number);
     }
-    reader.stated.add(alloc, number, entry)?;
+    reader.stated.add(alloc, number, statement)?;
     reader.is_empty = false;
     Ok(())
 }
 
-fn take_entry<'a>(
+fn take_statement<'a>(
     alloc: Global,
-    reader: &mut Reader<'a>,
+    reader: &mut TimingReader<'a>,
     number: u32,
-    entry: Option<Entry<'a>>,
+    statement: Option<Statement<'a>>,
 ) -> Result<(), TimingFault>
-    ensures { ReadsEntry reader.old reader.new number (stated_seen entry.entry) result }
+    ensures { ReadsStatement reader.old reader.new number (stated_seen statement.entry) result }
 {
-    match entry {
+    match statement {
         None => fault(TimingCause::Range, number),
-        Some(entry) => take_stated(alloc, reader, number, entry),
+        Some(statement) => take_in_range(alloc, reader, number, statement),
     }
 }
 
-fn take_version(reader: &mut Reader, number: u32) -> Result<(), TimingFault>
+fn take_version(reader: &mut TimingReader, number: u32) -> Result<(), TimingFault>
     ensures { Reads reader.old reader.new number forms.Version result }
 {
     if !reader.is_empty {
@@ -83,7 +83,7 @@ fn take_version(reader: &mut Reader, number: u32) -> Result<(), TimingFault>
 
 fn take_form<'a>(
     alloc: Global,
-    reader: &mut Reader<'a>,
+    reader: &mut TimingReader<'a>,
     number: u32,
     form: Form<'a>,
 ) -> Result<(), TimingFault>
@@ -93,10 +93,10 @@ fn take_form<'a>(
         Form::Blank => Ok(()),
         Form::Other => fault(TimingCause::Syntax, number),
         Form::Version => take_version(reader, number),
-        Form::Plain(entry) => take_entry(alloc, reader, number, entry),
-        Form::Versioned(entry) => {
+        Form::Plain(statement) => take_statement(alloc, reader, number, statement),
+        Form::Versioned(statement) => {
             if reader.is_version_2 {
-                take_entry(alloc, reader, number, entry)
+                take_statement(alloc, reader, number, statement)
             } else {
                 fault(TimingCause::Syntax, number)
             }
@@ -104,8 +104,8 @@ fn take_form<'a>(
     }
 }
 
-impl<'a> LineReader<'a> for Reader<'a> {
-    ghost use Rattle.timing_file.specs.Timing as content;
+impl<'a> LineReader<'a> for TimingReader<'a> {
+    ghost use Rattle.timing_file.specs.Timing as timings;
     ghost use Rattle.timing_file.specs.inner.Reading as reading;
 
     type Cause = TimingCause;
@@ -114,7 +114,7 @@ impl<'a> LineReader<'a> for Reader<'a> {
 
     ghost line_of = { forms.line_of };
 
-    ghost cause_of = { content.cause_of };
+    ghost cause_of = { timings.cause_of };
 
     ghost has_read = { reading.HasRead };
 
@@ -128,10 +128,10 @@ pub fn read_timing(alloc: Global, text: &[u8]) -> Result<Timing, TimingFault>
     requires { length text.now ≤ 67108864 }
     ensures { Answers OutOfMemory result (timing_of text.now) }
 {
-    let empty = Reader {
+    let empty = TimingReader {
         is_empty: true,
         is_version_2: false,
-        stated: Stated::new(alloc),
+        stated: TimingContent::new(alloc),
         seen: BTreeSet::new(alloc),
     };
     let reader = read_lines(alloc, empty, text)?;

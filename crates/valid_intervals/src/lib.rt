@@ -6,7 +6,7 @@
 //!
 //! A gate changes only when a pin that it looks at changes. The span of its cell is therefore the intersection
 //! ([`Span::meet`]) of its pins' spans, each moved by the delay of the pin and cut at the end of the simulation
-//! ([`Span::moved`]). Every span ends at [`LATEST`] at most. A result that would be empty is `None`.
+//! ([`Span::later_by`]). Every span ends at [`LATEST`] at most. A result that would be empty is `None`.
 //!
 //! Every call takes constant time and does not allocate. All values are copied.
 //!
@@ -148,58 +148,3 @@ pub fn meets_are_intersections()
 pub fn moved_is_later()
     ensures { MovedIsLater }
 {}
-
-#[cfg(test)]
-mod tests {
-    use super::*;
-
-    fn span(start: u32, end: u32) -> Option<Span> {
-        Span::new(start, end)
-    }
-
-    #[test]
-    fn spans(rt: HostRuntime) {
-        for (start, end, some) in [
-            (0, 1, true),
-            (4, 4, false),
-            (5, 4, false),
-            (7, 2_000_002, true),
-            (7, 2_000_003, false),
-        ] {
-            let made = span(start, end);
-            assert_eq!(rt; made.is_some(), some, "{start} to {end}");
-            if let Some(made) = made {
-                assert_eq!(rt; (made.start(), made.end()), (start, end));
-            }
-        }
-        // from 2 to 11, and from 5 to 11
-        for (by, cut, moved) in [(3, 11, span(3, 11)), (3, 9, span(3, 9)), (9, 9, None)] {
-            assert_eq!(rt;
-                span(0, 8).and_then(|s| s.later_by(by, cut)),
-                moved,
-                "by {by}"
-            );
-        }
-        for (start, end, met) in [(5, 20, span(5, 8)), (0, 3, span(2, 3)), (8, 9, None)] {
-            let other = span(start, end);
-            let both = span(2, 8).and_then(|s| other.and_then(|o| s.meet(o)));
-            assert_eq!(rt; both, met, "with {start} to {end}");
-        }
-    }
-
-    #[test]
-    fn cells(rt: HostRuntime) {
-        if let Some(span) = span(3, 8) {
-            let cell = Cell {
-                span,
-                value: Value::One,
-            };
-            for (time, covered) in [(2, false), (3, true), (7, true), (8, false)] {
-                assert_eq!(rt; cell.covers(time), covered, "at {time}");
-                let stored = SignalCell { signal: 4, cell };
-                assert_eq!(rt; stored.covers(Point { signal: 4, time }), covered);
-                assert!(rt; !stored.covers(Point { signal: 5, time }));
-            }
-        }
-    }
-}

@@ -40,8 +40,6 @@
 
 mod laws;
 mod reading;
-#[cfg(test)]
-mod tests;
 mod wire;
 mod writing;
 

@@ -45,8 +45,6 @@ mod checker;
 mod known;
 mod laws;
 mod reading;
-#[cfg(test)]
-mod tests;
 mod writing;
 
 pub use cells::CellList;

@@ -50,7 +50,7 @@ pub struct Worker<'a, G: Gate> {
 
 /// What became of a strand's turn.
 #[derive(Drop)]
-pub enum Turn<B: BatchName> {
+pub enum TurnEnd<B: BatchName> {
     /// It goes on.
     Goes(Strand<B>),
     /// It goes on, and its step woke these.
@@ -216,29 +216,29 @@ impl<B: BatchName> Shared<B> {
         worker: &Worker<'_, G>,
         mut strand: Strand<B>,
         next: Next,
-    ) -> Turn<B>
+    ) -> TurnEnd<B>
         requires design { design.now.circuit ≡ B.batch.circuit }
         requires next { next_of strand.strand ≡ next }
     {
         let Some(p) = step_point(next) else {
             self.put(rt, strand);
-            return Turn::Rests;
+            return TurnEnd::Rests;
         };
         let mut slot = self.lock_shard(rt, worker, &strand, next, p);
         let Some(counted) = &mut slot.content else {
             unreachable!();
         };
         match counted.step(&mut strand, design, next) {
-            Ok(Step::Heard) => Turn::Goes(strand),
-            Ok(Step::Holds) => Turn::Goes(strand),
-            Ok(Step::Refused) => Turn::Goes(strand),
-            Ok(Step::Filled(woken)) => Turn::Wakes(strand, woken),
-            Ok(Step::Dropped(woken)) => Turn::Wakes(strand, woken),
+            Ok(Step::Heard) => TurnEnd::Goes(strand),
+            Ok(Step::Holds) => TurnEnd::Goes(strand),
+            Ok(Step::Refused) => TurnEnd::Goes(strand),
+            Ok(Step::Filled(woken)) => TurnEnd::Wakes(strand, woken),
+            Ok(Step::Dropped(woken)) => TurnEnd::Wakes(strand, woken),
             Ok(Step::Taken) => match counted.park(strand, p) {
-                Ok(()) => Turn::Rests,
-                Err(_) => Turn::NoMemory,
+                Ok(()) => TurnEnd::Rests,
+                Err(_) => TurnEnd::NoMemory,
             },
-            Err(_) => Turn::NoMemory,
+            Err(_) => TurnEnd::NoMemory,
         }
     }
 
@@ -264,13 +264,13 @@ impl<B: BatchName> Shared<B> {
                 return true;
             }
             match self.turn(rt, design, worker, strand, step) {
-                Turn::Goes(s) => strand = s,
-                Turn::Wakes(s, woken) => {
+                TurnEnd::Goes(s) => strand = s,
+                TurnEnd::Wakes(s, woken) => {
                     self.push_all(rt, pass, woken);
                     strand = s;
                 }
-                Turn::Rests => return false,
-                Turn::NoMemory => {
+                TurnEnd::Rests => return false,
+                TurnEnd::NoMemory => {
                     self.give_up(rt);
                     return false;
                 }

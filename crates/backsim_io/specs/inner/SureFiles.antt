@@ -1,7 +1,7 @@
 -- Definitions for proofs and private functions, beside `SureFiles`.
 use Rattle.std.specs.Prelude.{ℕ, ◌≡◌, List, [], take}
 use Rattle.owned_text.specs.Made.{Made}
-use Rattle.backsim_io.specs.KeptBytes.{Kept}
+use Rattle.backsim_io.specs.KeptBytes.{KeptBytes}
 
 -- the first 255 bytes of a file's name, and the first bytes of the file that the room allows
 abbrev pub front_of : ℕ → Made → Made
@@ -10,7 +10,7 @@ front_of room file = record { name = take 255 file.name; bytes = take room file.
 -- the kept part of a created file
 pub record KeptFile : Type 0 where
   pub name : List ℕ
-  pub bytes : Kept
+  pub bytes : KeptBytes
 
 -- the kept part, as a file
 abbrev pub kept_file : KeptFile → Made

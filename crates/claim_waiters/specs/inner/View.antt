@@ -22,8 +22,8 @@ held_in true few many = many
 held_in false few many = few
 
 -- the points are in order, and each that has a room is claimed
-abbrev pub IsKept : {R : Type 0} → List (Point × ℕ) → List (Point × R) → Type 0
-IsKept holders rooms = IsStrictlySortedBy point_cmp (keys_of holders) × ((p : Point) → IsSome (at rooms p) → IsSome (at holders p))
+abbrev pub IsClaimTable : {R : Type 0} → List (Point × ℕ) → List (Point × R) → Type 0
+IsClaimTable holders rooms = IsStrictlySortedBy point_cmp (keys_of holders) × ((p : Point) → IsSome (at rooms p) → IsSome (at holders p))
 
 -- the waiters in a room; none if there is no room
 abbrev pub those_in : {W R : Type 0} → (R → List W) → Option R → List W

@@ -22,8 +22,8 @@ use Rattle.design.specs.declared.fault.JoinCause.TheVariants.{UnknownName, NotIn
 use Rattle.design.specs.declared.fault.JoinFault.{JoinFault}
 use Rattle.design.specs.declared.rows.Row.{Row}
 use Rattle.design.specs.declared.rows.Row.TheVariants as row
-use Rattle.design.specs.declared.stated.Stated.{Stated}
-use Rattle.design.specs.declared.stated.Rows.{Rows}
+use Rattle.design.specs.declared.signal_timing.SignalTiming.{SignalTiming}
+use Rattle.design.specs.declared.signal_timing.Rows.{Rows}
 use Rattle.std.specs.List.{range_with_len}
 use Rattle.design.specs.Causes.{out_of_memory}
 use Rattle.design.specs.Join.{number, driver_at, is_dff, is_input, clock_of_row, last_said, rows_say, delay_said, pin_said, initial_said, clock_said, timing_fault, set_fault, first_fault, stated_settings, pin_delays, flop_of}
@@ -41,19 +41,19 @@ abbrev pub pin_cmp : ℕ × ℕ → ℕ × ℕ → Ordering
 pin_cmp a b = ordering_then (nat_cmp a.0 b.0) (nat_cmp a.1 b.1)
 
 -- what these rows state of each signal
-pub record HasStated (netlist : netlists.Content) (timing : timings.Content) (rows : List TimingRow) (stated : Stated) : Type 0 where
+pub record HasStated (netlist : netlists.Content) (timing : timings.Content) (rows : List TimingRow) (stated : SignalTiming) : Type 0 where
   pub delays : (s : ℕ) → stated_of stated.delays.items s ≡ rows_say netlist rows s delay_said
   pub pins : (s k : ℕ) → get pin_cmp stated.pins (s, k) ≡ rows_say netlist rows s (pin_said k)
   pub initials : (s : ℕ) → stated_of stated.initials.items s ≡ rows_say netlist rows s initial_said
   pub clocks : (s : ℕ) → stated_of stated.clocks.items s ≡ rows_say netlist rows s (clock_said timing)
 
 -- the result of one more timing row
-abbrev pub TakesRow : netlists.Content → timings.Content → List TimingRow → TimingRow → Stated → Result (Unit {0}) JoinFault → Type 0
+abbrev pub TakesRow : netlists.Content → timings.Content → List TimingRow → TimingRow → SignalTiming → Result (Unit {0}) JoinFault → Type 0
 TakesRow netlist timing before row stated (Ok x) = (timing_fault netlist timing row ≡ None) × HasStated netlist timing (before ++ row ∷ []) stated
 TakesRow netlist timing before row stated (Err fault) = (fault ≡ out_of_memory) ⊎ (timing_fault netlist timing row ≡ Some fault)
 
 -- the result of all timing rows
-abbrev pub TakesRows : netlists.Content → timings.Content → Result Stated JoinFault → Type 0
+abbrev pub TakesRows : netlists.Content → timings.Content → Result SignalTiming JoinFault → Type 0
 TakesRows netlist timing (Ok stated) = (first_fault (timing_fault netlist timing) timing.rows ≡ None) × HasStated netlist timing timing.rows stated
 TakesRows netlist timing (Err fault) = (fault ≡ out_of_memory) ⊎ (first_fault (timing_fault netlist timing) timing.rows ≡ Some fault)
 

@@ -28,5 +28,5 @@ pub record IsPlan (b : Batch) (opening : ℕ → List SignalCell) (places : List
   pub lawful : IsLawful b
   pub numbers : AreNumbered places
   pub order : AreInOrder shards
-  pub kept : IsKeptPlan (seats places) (waited_shards shards) (plan_at places shards).strands
+  pub kept_plan : IsKeptPlan (seats places) (waited_shards shards) (plan_at places shards).strands
   pub sound : IsSound b opening (plan_at places shards)

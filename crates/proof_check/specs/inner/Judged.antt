@@ -16,22 +16,22 @@ use Rattle.proof_check.specs.Refused.{IsRefused, IfRefused, EndsRefused}
 use Rattle.proof_check.specs.declared.reading.Inputs.{Inputs}
 use Rattle.proof_check.specs.declared.reading.Refusal.{Refusal}
 use Rattle.proof_check.specs.declared.reading.Refusal.TheVariants.{OfFiles, ProofTooLong}
-use Rattle.proof_check.specs.declared.reading.Stop.{Stop}
+use Rattle.proof_check.specs.declared.reading.CheckStop.{CheckStop}
 use Rattle.design.specs.Joined.{Joined}
 use Rattle.proof_check.specs.declared.judging.Verdict.{Verdict}
-use Rattle.proof_check.specs.declared.reading.Stop.TheVariants as stops
+use Rattle.proof_check.specs.declared.reading.CheckStop.TheVariants as stops
 use Rattle.proof_check.specs.declared.status.CheckStatus.{CheckStatus}
 use Rattle.proof_check.specs.declared.status.CheckStatus.TheVariants.{Yes, Refused, ReadFault, FileFault, OutOfMemory, No}
 
 -- the stop of the three files
-abbrev pub stop_of : FilesStop → Stop
+abbrev pub stop_of : FilesStop → CheckStop
 stop_of (files.Refused refusal) = stops.Refused (OfFiles refusal)
 stop_of (files.NotOpened file) = stops.NotOpened
 stop_of (files.Unread file) = stops.Unread
 stop_of files.OutOfMemory = stops.OutOfMemory
 
 -- the stop of the proof
-abbrev pub proof_stop : ReadFile → Stop
+abbrev pub proof_stop : ReadFile → CheckStop
 proof_stop reads.NotOpened = stops.NotOpened
 proof_stop reads.Failed = stops.Unread
 proof_stop reads.TooLong = stops.Refused ProofTooLong
@@ -43,24 +43,24 @@ line_of (OfFiles refusal) = refusal_text refusal
 line_of ProofTooLong = too_long
 
 -- a stop comes only with its cause
-abbrev pub StopChanges : FilesState → FilesState → Stop → Type 0
+abbrev pub StopChanges : FilesState → FilesState → CheckStop → Type 0
 StopChanges old new stops.NotOpened = MissingOf 4 old new
 StopChanges old new stops.Unread = UnreadOf 4 old new
 StopChanges old new _ = OpenedUpTo 4 old new
 
 -- if these four files are refused, the refusal is right
-abbrev pub RefusesRight : Given → List ℕ → Stop → Type 0
+abbrev pub RefusesRight : Given → List ℕ → CheckStop → Type 0
 RefusesRight given proof (stops.Refused refusal) = IsRefused given proof (line_of refusal)
 RefusesRight given proof _ = ⊤
 
 -- the first n files are refused with this line, unless a fault at one of them or a lack of memory came before; no later file was opened
-abbrev pub StopsFirst : ℕ → List ℕ → (started : ℕ) → Stop → Type 0
+abbrev pub StopsFirst : ℕ → List ℕ → (started : ℕ) → CheckStop → Type 0
 StopsFirst n line started (stops.Refused refusal) = (line_of refusal ≡ line) × (started ≤ n)
 StopsFirst n line started stops.NotOpened = started < n
 StopsFirst n line started _ = started ≤ n
 
 -- The design of the first three files and the bytes of the proof were read, or the reading stopped.
-pub record ReadsAll (names : Names) (old new : FilesState) (result : Result Inputs Stop) : Type 0 where
+pub record ReadsAll (names : Names) (old new : FilesState) (result : Result Inputs CheckStop) : Type 0 where
   pub design : (given : Given) → AreGiven old.bytes names given
       → IfOk result (λ inputs. design_of_files given.netlist given.timing given.stimulus ≡ Ok inputs.design)
   pub text : (proof : List ℕ) → old.bytes names.proof ≡ Some proof → IfOk result (λ inputs. inputs.text.items ≡ proof)
@@ -83,7 +83,7 @@ abbrev pub IsJudged : Joined → List ℕ → Result Verdict CheckStatus → Typ
 IsJudged d text result = MatchResult result (λ verdict. Gives d text verdict.status verdict.line.items) (λ status. status ≡ OutOfMemory)
 
 -- where no proof was read, a refusal is the verdict
-abbrev pub EndsStopped : Stop → Result Verdict CheckStatus → Type 0
+abbrev pub EndsStopped : CheckStop → Result Verdict CheckStatus → Type 0
 EndsStopped (stops.Refused refusal) result =
     MatchResult result (λ verdict. (verdict.status ≡ Refused) × (verdict.line.items ≡ line_of refusal)) (λ status. status ≡ OutOfMemory)
 EndsStopped stops.NotOpened result = result ≡ Err FileFault

@@ -13,8 +13,8 @@ returns-clause-shards g c =
 pub returns-clause-freed : goal.returns-clause-freed
 returns-clause-freed g c = shards-freed c.args.shards.items c.free_all.new.shards.items c.free_all.ensures.count c.free_all.ensures.freed
 
-pub returns-clause-kept : goal.returns-clause-kept
-returns-clause-kept g c =
+pub returns-clause-free : goal.returns-clause-free
+returns-clause-free g c =
     let b = g.B.BatchName.batch in
     let opening = g.B.BatchName.opening in
     let old = c.args.shards.items in

@@ -6,7 +6,7 @@ use Rattle.cell_store.specs.declared.index.Place.{Place}
 use Rattle.cell_store.specs.inner.Index.{end_in, cells_of, IsPlaced}
 use Rattle.cell_store.specs.inner.Lists.{key_at, IsLastAt, IsNoneAt}
 use Rattle.cell_store.specs.inner.Maps.{place_of}
-use Rattle.cell_store.proofs.Entries.{Entry}
+use Rattle.cell_store.proofs.Entries.{CacheEntry}
 use Rattle.cell_store.proofs.Found.{covered, past, none_before}
 use Rattle.cell_store.proofs.Placed.{cell_in, IsSlotOf, slot_found, no_slot_found, end_of_place, no_end_of_place, has_place}
 use Rattle.cell_store.proofs.store.covering_cell.Goals.{Then-p-place}
@@ -21,7 +21,7 @@ returns-in_err-start c =
     (λ q of early. no_end_of_place (place_of c.args.index.now) q (none q of early)))
 
 -- the cell at the place that is found
-at_place : (c : Then-p-place) (entries : List Entry) → IsPlaced (place_of c.args.index.now) entries → IsSlotOf entries (covers c.args.p) (key_at c.args.p.signal c.in_ok-start.start) c.in_ok-start.place
+at_place : (c : Then-p-place) (entries : List CacheEntry) → IsPlaced (place_of c.args.index.now) entries → IsSlotOf entries (covers c.args.p) (key_at c.args.p.signal c.in_ok-start.start) c.in_ok-start.place
 at_place c entries placed =
     let k : Key = key_at c.args.p.signal c.in_ok-start.start in
     let p : Place = c.in_ok-start.place in

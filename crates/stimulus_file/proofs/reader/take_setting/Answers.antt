@@ -3,7 +3,7 @@ use Rattle.std.proofs.lemmas.Bool.{not-false, not-true}
 use Rattle.std.specs.List.{list_all, list_any}
 use Rattle.stimulus_file.specs.declared.NumberedSet.{NumberedSet}
 use Rattle.stimulus_file.specs.Stimulus.{is_blank, sets}
-use Rattle.stimulus_file.specs.inner.Kept.{is_at, HasSeen, Tells}
+use Rattle.stimulus_file.specs.inner.KeptSettings.{is_at, HasSeen, Tells}
 use Rattle.stimulus_file.proofs.Steps.{setting_step, set_before, states}
 use Rattle.stimulus_file.proofs.reader.take_setting.Goals as goal
 

@@ -1,5 +1,5 @@
 use Rattle.std.proofs.Common.{subst}
-use Rattle.stimulus_file.specs.inner.Kept.{HasSeen}
+use Rattle.stimulus_file.specs.inner.KeptSettings.{HasSeen}
 use Rattle.stimulus_file.proofs.Finding.{seen_all, tells_more}
 use Rattle.stimulus_file.proofs.seen.is_unseen.Goals as goal
 

@@ -18,7 +18,7 @@ loop-q-preserved c = λ i d p low same from to.
       | inl e ↦
           let is : get_or qs i d ≡ get_or qs n no_query = ap (λ k. get_or qs k d) e ∙ get_or_default qs n d no_query c.loop-q-test.true in
           c.add.ensures.window p (same ∙ ap (λ (q : Query). q.signal) is) (subst (λ (q : Query). q.from ≤ p.time) is from) (subst (λ (q : Query). p.time < q.to) is to)
-      | inr ne ↦ c.add.ensures.kept p (c.loop-q.invariant i d p (omega arith) same from to)
+      | inr ne ↦ c.add.ensures.wanted_stay p (c.loop-q.invariant i d p (omega arith) same from to)
     ]
 
 pub returns : goal.returns

@@ -155,14 +155,14 @@ use_map-requires c = record {
       c.in_ok-add_listed.ensures.listed);
 }
 
-kept : (c : After-use_map) → (q : Key) → or_else (listed c.use_map.new.nodes.items q) (mapped_in (head_for c.use_map.new.heads) c.use_map.new.maps q) ≡ place_of c.args.self.now q
-kept c q =
+others_stay : (c : After-use_map) → (q : Key) → or_else (listed c.use_map.new.nodes.items q) (mapped_in (head_for c.use_map.new.heads) c.use_map.new.maps q) ≡ place_of c.args.self.now q
+others_stay c q =
     c.use_map.ensures.same q
     ∙ steady_all c.self.inside.nodes.items c.add_listed.new.nodes.items (head_for c.self.inside.heads) (head_for c.add_listed.new.heads) c.self.inside.maps c.self.invariant (steady_in c) q
     ∙ ap (λ (s : Places). place_of s q) c.self.view_is
 
 pub returns-in_err-use_map-clause-err : goal.returns-in_err-use_map-clause-err
-returns-in_err-use_map-clause-err c = on_err c.from_residual-in_err-use_map.result (kept (goal.at.returns-in_err-use_map-clause-err c).After-use_map)
+returns-in_err-use_map-clause-err c = on_err c.from_residual-in_err-use_map.result (others_stay (goal.at.returns-in_err-use_map-clause-err c).After-use_map)
 
 unlisted_in : (c : After-use_map) → listed c.self.inside.nodes.items c.args.key ≡ None → listed c.use_map.new.nodes.items c.args.key ≡ None
 unlisted_in c none =
@@ -187,14 +187,14 @@ invariant_of-self-2 c =
 pub returns-clause-had : goal.returns-clause-had
 returns-clause-had c =
     let w = goal.at.returns-clause-had c in
-    if_value c.insert-2.result (λ had e. e ∙ ap (option_map (λ (p : Place). p.slot)) (kept w.After-use_map c.args.key))
+    if_value c.insert-2.result (λ had e. e ∙ ap (option_map (λ (p : Place). p.slot)) (others_stay w.After-use_map c.args.key))
     (insert_had c.use_map.new.nodes.items (head_for c.use_map.new.heads) c.use_map.new.maps c.insert-2.new.self c.use_map.ensures.whole c.args.key c.args.place c.at.result c.at.ensures
     (unlisted_in w.After-use_map (unlisted w.After-place_starting c.in_default.is)) (has_in w.After-insert-2) c.insert-2.result c.insert-2.ensures.had)
 
 pub returns-clause-new : goal.returns-clause-new
 returns-clause-new c =
     let w = goal.at.returns-clause-new c in
-    none_had c.insert-2.result (λ sets q. sets q ∙ ap (cond (is_eq (key_cmp c.args.key q)) (Some c.args.place)) (kept w.After-use_map q))
+    none_had c.insert-2.result (λ sets q. sets q ∙ ap (cond (is_eq (key_cmp c.args.key q)) (Some c.args.place)) (others_stay w.After-use_map q))
     (insert_new c.use_map.new.nodes.items (head_for c.use_map.new.heads) c.use_map.new.maps c.insert-2.new.self c.use_map.ensures.whole c.args.key c.args.place c.at.result c.at.ensures
     (unlisted_in w.After-use_map (unlisted w.After-place_starting c.in_default.is)) (has_in w.After-insert-2) c.insert-2.result c.insert-2.ensures.new)
 
@@ -205,7 +205,7 @@ returns-clause-stays c =
     (λ st q.
     insert_same c.use_map.new.nodes.items (head_for c.use_map.new.heads) c.use_map.new.maps c.insert-2.new.self c.use_map.ensures.whole c.args.key c.args.place c.at.result c.at.ensures
     (unlisted_in w.After-use_map (unlisted w.After-place_starting c.in_default.is)) (has_in w.After-insert-2) c.insert-2.result st q
-    ∙ kept w.After-use_map q)
+    ∙ others_stay w.After-use_map q)
     c.insert-2.ensures.stays
 
 pub returns-clause-err : goal.returns-clause-err
@@ -215,5 +215,5 @@ returns-clause-err c =
     (λ st q.
     insert_same c.use_map.new.nodes.items (head_for c.use_map.new.heads) c.use_map.new.maps c.insert-2.new.self c.use_map.ensures.whole c.args.key c.args.place c.at.result c.at.ensures
     (unlisted_in w.After-use_map (unlisted w.After-place_starting c.in_default.is)) (has_in w.After-insert-2) c.insert-2.result st q
-    ∙ kept w.After-use_map q)
+    ∙ others_stay w.After-use_map q)
     c.insert-2.ensures.err

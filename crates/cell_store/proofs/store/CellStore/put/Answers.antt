@@ -11,7 +11,7 @@ use Rattle.cell_store.specs.declared.Key.{Key}
 use Rattle.cell_store.specs.declared.index.Place.{Place}
 use Rattle.cell_store.specs.inner.Index.{key_cmp, cells_of, IsFront, IsSoundStore}
 use Rattle.cell_store.proofs.Found.{none_some}
-use Rattle.cell_store.proofs.Kept.{put_back}
+use Rattle.cell_store.proofs.StoreIndex.{put_back}
 use Rattle.cell_store.proofs.Entries.{is_there, new_slot}
 use Rattle.cell_store.proofs.Calls.{same_sound}
 use Rattle.cell_store.proofs.Puts.{below, slot_empty, slot_held, slot_holds, IsPut, put_again, put_in_room, put_in_full, at_slot}

@@ -3,12 +3,12 @@ use Rattle.std.proofs.lemmas.Result.{IfOk-weaker, on_err_weaker}
 use Rattle.valid_intervals.specs.declared.Point.{Point}
 use Rattle.claim_waiters.specs.Claims.{Claims, claim_at, with_claim}
 use Rattle.claim_waiters.specs.inner.View.{at, claims_of, those_in}
-use Rattle.claim_waiters.proofs.ClaimLemmas.{free-claims, unclaimed, insert-claims, unclaimed-none, kept-by-claim, once-claimed}
+use Rattle.claim_waiters.proofs.ClaimLemmas.{free-claims, unclaimed, insert-claims, unclaimed-none, table-by-claim, once-claimed}
 use Rattle.claim_waiters.proofs.table.ClaimTable.claim.Goals as goal
 
 pub invariant_of-self : goal.invariant_of-self
 invariant_of-self g c =
-    kept-by-claim c.self.inside.holders c.claim.new.self c.args.p c.args.q c.self.inside.rooms.entries c.claim.result c.claim.ensures.order c.claim.ensures.free c.claim.ensures.claimed c.claim.ensures.taken c.claim.ensures.err c.self.invariant
+    table-by-claim c.self.inside.holders c.claim.new.self c.args.p c.args.q c.self.inside.rooms.entries c.claim.result c.claim.ensures.order c.claim.ensures.free c.claim.ensures.claimed c.claim.ensures.taken c.claim.ensures.err c.self.invariant
 
 pub returns-clause-free : goal.returns-clause-free
 returns-clause-free g c =

@@ -3,7 +3,7 @@ use Rattle.valid_intervals.specs.declared.Point.{Point}
 use Rattle.claim_waiters.specs.Claims.{Claims, claim_at, waiters_of, without_claim}
 use Rattle.claim_waiters.specs.inner.View.{at, claims_of, those_in}
 use Rattle.claim_waiters.proofs.Tables.{at-removed, at-same}
-use Rattle.claim_waiters.proofs.ClaimLemmas.{claimed-claims, waiters-claims, remove-claims, those-taken, kept-taken}
+use Rattle.claim_waiters.proofs.ClaimLemmas.{claimed-claims, waiters-claims, remove-claims, those-taken, table-taken}
 use Rattle.claim_waiters.proofs.table.ClaimTable.take.Goals as goal
 use Rattle.claim_waiters.proofs.table.ClaimTable.take.Goals.{in-Some, in-None}
 
@@ -14,7 +14,7 @@ remove-requires g c =
 
 pub invariant_of-self : goal.invariant_of-self
 invariant_of-self g c =
-    kept-taken c.self.inside.holders c.remove.new.self c.self.inside.rooms.entries c.remove-2.new.self.entries c.args.p
+    table-taken c.self.inside.holders c.remove.new.self c.self.inside.rooms.entries c.remove-2.new.self.entries c.args.p
     c.remove.ensures.order (λ x. ap (λ es. at es x) c.remove.ensures.rest ∙ at-removed c.self.inside.holders c.args.p x c.self.invariant.0 ∙ ap (λ b. cond b None (at c.self.inside.holders x)) (sym (at-same c.args.p x))) c.remove-2.ensures.updates.0 c.self.invariant
 
 pub returns-clause-waiters : goal.returns-clause-waiters

@@ -4,14 +4,14 @@ use Rattle.std.proofs.lemmas.Result.{on_ok_weaker, on_err_weaker}
 use Rattle.valid_intervals.specs.declared.Point.{Point}
 use Rattle.claim_waiters.specs.Claims.{Claims, claim_at, with_waiter}
 use Rattle.claim_waiters.specs.inner.View.{at, those_in}
-use Rattle.claim_waiters.proofs.ClaimLemmas.{claimed-claims, same-claims, wait-claims, those-lent, those-same, those-waited, kept-waited}
+use Rattle.claim_waiters.proofs.ClaimLemmas.{claimed-claims, same-claims, wait-claims, those-lent, those-same, those-waited, table-waited}
 use Rattle.claim_waiters.proofs.table.ClaimTable.wait.Goals as goal
 
 pub invariant_of-self-2 : goal.invariant_of-self-2
 invariant_of-self-2 g c =
     let waiting = λ (p : Point). those_in g.W.Waiter.items (at c.self.inside.rooms.entries p) in
     let claimed = claimed-claims waiting c.args.p c.self.inside.holders (subst (λ (v : Claims g.row.W.Denot). IsSome (claim_at v c.args.p)) (sym c.self.view_is) c.requires) in
-    kept-waited c.self.inside.holders c.self.inside.rooms.entries _ (map_with_value c.in-Ok.room c.wait.new.room).entries c.args.p c.wait.new.room (search rules) (c.in-Ok.ensures.update.0 c.wait.new.room).0 claimed c.self.invariant
+    table-waited c.self.inside.holders c.self.inside.rooms.entries _ (map_with_value c.in-Ok.room c.wait.new.room).entries c.args.p c.wait.new.room (search rules) (c.in-Ok.ensures.update.0 c.wait.new.room).0 claimed c.self.invariant
 
 pub returns-clause-ok : goal.returns-clause-ok
 returns-clause-ok g c =

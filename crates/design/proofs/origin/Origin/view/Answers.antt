@@ -2,7 +2,7 @@ use Rattle.std.proofs.Common.{ℕ, ◌<◌, List, length, take, drop, ap₂, ◌
 use Rattle.std.specs.Global.{Vec}
 use Rattle.std.proofs.lemmas.List.{length-map}
 use Rattle.circuit_meaning.specs.declared.Setting.{Setting}
-use Rattle.design.proofs.Kept.{input-within, input-view, gate-view, flop-view, list-read}
+use Rattle.design.proofs.KeptSignals.{input-within, input-view, gate-view, flop-view, list-read}
 use Rattle.design.proofs.origin.Origin.view.Goals as goal
 
 pub returns-in-Input : goal.returns-in-Input

@@ -20,7 +20,7 @@ loop-place-preserved g c = record {
         | else-unrefused w ↦ absurd (true≢false (sym e ∙ w.unrefused-is ∙ w.if-unrefused.false))
       ] in
       let low : c.loop-place.place < length c.loop-place.self.strands =
-      let parts = c.self.invariant.kept.parts.length in
+      let parts = c.self.invariant.kept_plan.parts.length in
       let seated = length-map c.self.inside.places.items seat in
       let seen = ap (λ (z : Plan). length z.strands) c.self.view_is in
       let end = c.len-place-end.ensures ∙ c.self.inside.places.ok.0 in
@@ -36,7 +36,7 @@ loop-place-preserved g c = record {
     | then-unrefused w ↦
         let whole : c.in_ok-served.served ≡ Some c.in-Some.whole = search rules in
         c.in_ok-served.ensures.refused (whole ∙ ap (λ (x : Bool). Some x) (sym w.unrefused-is ∙ e))
-    | else-unrefused w ↦ c.in_ok-served.ensures.kept (c.loop-place.invariant.refused w.if-unrefused.false)
+    | else-unrefused w ↦ c.in_ok-served.ensures.refusal_stays (c.loop-place.invariant.refused w.if-unrefused.false)
   ];
 }
 
@@ -49,7 +49,7 @@ returns-clause-refused g c = λ e. c.loop-place.invariant.refused (some-same _ _
 pub returns-clause-served : goal.returns-clause-served
 returns-clause-served g c = λ u e.
     let all : length c.loop-place.self.strands ≤ c.loop-place.place =
-    let parts = c.self.invariant.kept.parts.length in
+    let parts = c.self.invariant.kept_plan.parts.length in
     let seated = length-map c.self.inside.places.items seat in
     let seen = ap (λ (z : Plan). length z.strands) c.self.view_is in
     let end = c.len-place-end.ensures ∙ c.self.inside.places.ok.0 in

@@ -6,6 +6,6 @@ pub turns-init : goal.turns-init
 turns-init g c = record {
   count = refl;
   runs = λ a h same. alone-start g.B.BatchName.batch c.facts.ensures.lawful g.B.BatchName.opening c.args.number a c.args.self.now h.sound h.free h.at;
-  kept = λ r. r;
+  refusal_stays = λ r. r;
   refused = λ e. absurd (true≢false e);
 }

@@ -9,7 +9,7 @@ abbrev pub invariant-turns : goal.invariant-turns
 invariant-turns g l = record {
   count : length l.self.strands ≡ length l.initial.self.strands;
   runs : (a : Start) → BeginsAlone g.B.BatchName.batch g.B.BatchName.opening l.number a l.initial.self → l.unrefused ≡ true → RunsAlone g.B.BatchName.batch g.B.BatchName.opening l.number a l.initial.self l.self None;
-  kept : SomeRefused l.initial.self → SomeRefused l.self;
+  refusal_stays : SomeRefused l.initial.self → SomeRefused l.self;
   refused : l.unrefused ≡ false → SomeRefused l.self;
 }
 

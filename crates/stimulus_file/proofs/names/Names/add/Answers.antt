@@ -2,7 +2,7 @@ use Rattle.std.proofs.Common.{ℕ, Bool, cond, List, [], ◌∷◌, ◌++◌, So
 use Rattle.std.specs.BTreeMap.{get}
 use Rattle.std.proofs.lemmas.Map.Text.{is_eq-slice_cmp}
 use Rattle.stimulus_file.specs.declared.names.Names.{Names}
-use Rattle.stimulus_file.specs.inner.Kept.{name_cmp}
+use Rattle.stimulus_file.specs.inner.KeptSettings.{name_cmp}
 use Rattle.stimulus_file.proofs.Finding.{finds_new}
 use Rattle.stimulus_file.proofs.names.Names.add.Goals as goal
 

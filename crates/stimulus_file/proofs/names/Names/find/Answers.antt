@@ -1,6 +1,6 @@
 use Rattle.std.proofs.Common.{ℕ, sym, ap, subst, ◌∙◌}
 use Rattle.stimulus_file.specs.declared.names.Names.{Names}
-use Rattle.stimulus_file.specs.inner.Kept.{ArePlaces}
+use Rattle.stimulus_file.specs.inner.KeptSettings.{ArePlaces}
 use Rattle.stimulus_file.proofs.Naming.{is_later, with_time}
 use Rattle.stimulus_file.proofs.Finding.{finds_again}
 use Rattle.stimulus_file.proofs.names.Names.find.Goals as goal

@@ -1,6 +1,6 @@
 use Rattle.std.proofs.Common.{sym, subst, ◌∙◌}
 use Rattle.std.specs.BTreeMap.{get}
-use Rattle.stimulus_file.specs.inner.Kept.{name_cmp, StandsAt}
+use Rattle.stimulus_file.specs.inner.KeptSettings.{name_cmp, StandsAt}
 use Rattle.stimulus_file.proofs.Naming.{is_place}
 use Rattle.stimulus_file.proofs.names.Names.place_of.Goals as goal
 
