@@ -2,6 +2,7 @@
 use Rattle.std.proofs.Common.{length, ◌<◌, ◌≤◌, arith, ◌≡◌, ◌⊎◌, ⊎_elim, Bool, true, false, cond, not, ◌||◌, List, [], ◌∷◌, filter, All, Some, None, find, refl, sym, ap, subst, ◌∙◌, true≢false}
 use Rattle.std.proofs.lemmas.List.Elements.{All-head, All-tail, All-cons, All-nil}
 use Rattle.std.specs.List.{list_any}
+use Rattle.std.proofs.lemmas.Option.{same_Some}
 use Rattle.valid_intervals.specs.Spans.{IsSpan}
 use Rattle.valid_intervals.specs.declared.SignalCell.{SignalCell}
 use Rattle.valid_intervals.specs.Cells.{same_stored, is_stored}
@@ -9,7 +10,7 @@ use Rattle.cell_store.specs.Recency.{key_of, IsApart, FitsStore}
 use Rattle.cell_store.specs.inner.Index.{has_key}
 use Rattle.cell_store.proofs.Same.{same_stored-true, same_stored-itself}
 use Rattle.cell_store.proofs.Keys.{first_point, covers_first, shares_first, differs, told_apart, has_key-itself}
-use Rattle.cell_store.proofs.Found.{some_same, none_some, found_true, found_all}
+use Rattle.cell_store.proofs.Found.{none_some, found_true, found_all}
 
 -- nothing is taken out where nothing is the same
 pub all_kept : (x : SignalCell) (cells : List SignalCell) → All (λ y. same_stored x y ≡ false) cells → filter (λ y. not (same_stored x y)) cells ≡ cells
@@ -32,7 +33,7 @@ passes f g (y ∷ ys) x h told =
       | true ↦ λ t. refl
       | false ↦ λ t.
           (elim (f y) as (λ b. cond b (Some y) (find f ys) ≡ Some x → list_any g ys ≡ true) [
-            | true ↦ λ d. absurd (true≢false (sym told ∙ ap g (sym (some_same y x d)) ∙ t))
+            | true ↦ λ d. absurd (true≢false (sym told ∙ ap g (sym (same_Some y x d)) ∙ t))
             | false ↦ λ d. passes f g ys x d told
           ]) h
     ]) refl
@@ -88,7 +89,7 @@ shorter f x (y ∷ cells) h =
     let others : List SignalCell = filter (λ z. not (same_stored x z)) cells in
     (elim (f y) as (λ b. cond b (Some y) (find f cells) ≡ Some x → length (cond (not (same_stored x y)) (y ∷ others) others) < length (y ∷ cells)) [
       | true ↦ λ e.
-          let itself : same_stored x y ≡ true = subst (λ (z : SignalCell). same_stored z y ≡ true) (some_same y x e) (same_stored-itself y) in
+          let itself : same_stored x y ≡ true = subst (λ (z : SignalCell). same_stored z y ≡ true) (same_Some y x e) (same_stored-itself y) in
           subst (λ b. length (cond (not b) (y ∷ others) others) < length (y ∷ cells)) (sym itself) (omega (arith, no_longer (λ z. not (same_stored x z)) cells))
       | false ↦ λ e.
           elim (same_stored x y) as (λ b. length (cond (not b) (y ∷ others) others) < length (y ∷ cells)) [

@@ -3,7 +3,7 @@ use Rattle.std.proofs.Common.{◌≡◌, ℕ, zero, suc, false, nat_lt, unwrap_o
 use Rattle.std.proofs.lemmas.List.{length-append, length-take, take_all, take-map}
 use Rattle.std.proofs.lemmas.List.Elements.{All-cons}
 use Rattle.std.proofs.lemmas.Bool.{ltb-true, ltb-false}
-use Rattle.std.proofs.lemmas.Option.{slice_get_within}
+use Rattle.std.proofs.lemmas.Option.{slice_get_within, same_Some}
 use Rattle.std.specs.List.{slice_get}
 use Rattle.std.specs.Map.{lookup_entry, remove_entry}
 use Rattle.std.specs.Option.{option_map_or}
@@ -19,7 +19,7 @@ use Rattle.cell_store.specs.declared.index.Place.{Place}
 use Rattle.cell_store.specs.Recency.{key_of, last_key, IsApart}
 use Rattle.cell_store.specs.inner.Index.{key_cmp, place_at, slot_and_cell, end_in, cells_of, times, uses_of, places_of, AreSlots, IsStoreIndex, IsPlaced, IsSoundStore}
 use Rattle.cell_store.proofs.Keys.{covers_true}
-use Rattle.cell_store.proofs.Found.{some_same, none_some, found_true, found_all}
+use Rattle.cell_store.proofs.Found.{none_some, found_true, found_all}
 use Rattle.cell_store.proofs.StoreIndex.{used}
 use Rattle.cell_store.proofs.Entries.{CacheEntry, split_last, length-cells_of, times-append, uses_of-append, absent, IsTaken, taken, All-remove_entry, IsMoved, moved, same_slots, IsAtEnd, at_end, IsFresh, fresh, new_slot, still_free}
 use Rattle.cell_store.proofs.Placed.{IsAt, same_placed, added_place, dropped_place, IsLocated, IsFoundIn, cell_found}
@@ -170,7 +170,7 @@ slot_below entries free capacity slot slots few there =
 times_at : (free : List ℕ) (n slot : ℕ) → slice_get free n ≡ Some slot → 1 ≤ times slot free
 times_at [] n slot h = none_some slot h
 times_at (s ∷ free) zero slot h =
-    let itself : nat_eq slot s ≡ true = eq-eqb slot s (sym (some_same s slot h)) in
+    let itself : nat_eq slot s ≡ true = eq-eqb slot s (sym (same_Some s slot h)) in
     subst (λ b. 1 ≤ cond b 1 0 + times slot free) (sym itself) (omega arith)
 times_at (s ∷ free) (suc n) slot h = let there : 1 ≤ times slot free = times_at free n slot h in omega arith
 

@@ -1,7 +1,7 @@
 -- The cells of a store by their slots, and the order of the slots.
 use Rattle.std.proofs.Common.{◌≡◌, ℕ, ◌+◌, ◌-◌, ◌<◌, ◌≤◌, true, false, cond, nat_eq, List, [], ◌∷◌, zero, suc, length, take, get_or, All, Option, Some, None, IsSome, option_map, refl, sym, ap, subst, ◌∙◌, eqb-true, nat_lt, arith}
 use Rattle.std.proofs.lemmas.List.{take_all, take-map, length-map, length-take, get_or_read}
-use Rattle.std.proofs.lemmas.Option.{slice_get-map, slice_get_within, get_or_from_slice_get}
+use Rattle.std.proofs.lemmas.Option.{slice_get-map, slice_get_within, get_or_from_slice_get, same_Some}
 use Rattle.std.specs.List.{slice_get}
 use Rattle.std.proofs.lemmas.List.Elements.{All-head, All-tail, All-cons, All-weaker, All-take, All-get_or}
 use Rattle.std.proofs.lemmas.Bool.{ltb-true, ltb-false}
@@ -11,7 +11,7 @@ use Rattle.lru.specs.LruCache.{LruCache, lru_cache, promoted, put_entries, last_
 use Rattle.valid_intervals.specs.declared.SignalCell.{SignalCell}
 use Rattle.cell_store.specs.inner.Notes.{Slots, with_note, after_notes, cell_in, with_cells, AreRecent}
 use Rattle.cell_store.proofs.Entries.{CacheEntry}
-use Rattle.cell_store.proofs.Found.{some_same, none_some}
+use Rattle.cell_store.proofs.Found.{none_some}
 use Rattle.cell_store.proofs.Uses.{without, without_both, slot_of, absent_stays}
 
 -- ---- the cells of the slots
@@ -105,7 +105,7 @@ found_one : (P : ℕ × Unit {0} → Type 0) (s : ℕ) (slots : Slots) (e : ℕ 
 found_one P s [] e all h = none_some e h
 found_one P s (d ∷ slots) e all h =
     (elim (nat_eq s d.0) as (λ b. cond b (Some d) (lookup_entry (nat_eq s) slots) ≡ Some e → P e) [
-      | true ↦ λ is. subst P (some_same d e is) (All-head P d slots all)
+      | true ↦ λ is. subst P (same_Some d e is) (All-head P d slots all)
       | false ↦ λ is. found_one P s slots e (All-tail P d slots all) is
     ]) h
 

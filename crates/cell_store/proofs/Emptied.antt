@@ -1,11 +1,8 @@
 -- The list of a signal goes into a map: what has been copied of it, what has been freed, and what the index keeps.
-use Rattle.std.proofs.Common.{◌≡◌, ◌⊎◌, inl, inr, ⊎_elim, ℕ, zero, suc, ◌<◌, ◌≤◌, Bool, true, false, ◌&&◌, not, cond, nat_eq, nat_lt, List, [], ◌∷◌, length, Option, Some, None, IsSome, IfSome, refl, sym, ap, ap₂, subst, ◌∙◌, true≢false, eq-eqb, eqb-true, arith}
-use Rattle.std.proofs.lemmas.Bool.{ltb-true, ltb-false, lt-ltb, ne_eqb}
-use Rattle.std.proofs.lemmas.Bool.Decides.{nat_tests}
-use Rattle.std.specs.BTreeMap.{BTreeMap, get, is_at}
+use Rattle.std.proofs.Common.{◌≡◌, ◌⊎◌, inl, inr, ⊎_elim, ℕ, suc, ◌<◌, ◌≤◌, Bool, true, false, ◌&&◌, not, cond, nat_eq, nat_lt, List, length, Option, Some, None, IsSome, IfSome, refl, sym, ap, ap₂, subst, ◌∙◌, true≢false, eq-eqb, arith}
+use Rattle.std.proofs.lemmas.Bool.{ltb-true, ltb-false, lt-ltb, le-ltb, ne_eqb, eqb-false}
 use Rattle.std.specs.List.{slice_get}
-use Rattle.std.specs.Map.{lookup}
-use Rattle.std.specs.Ordering.{is_eq, is_gt, is_lt, nat_cmp}
+use Rattle.std.proofs.lemmas.Option.{same_Some}
 use Rattle.cell_store.specs.declared.Key.{Key}
 use Rattle.cell_store.specs.declared.heads.Head.{Head}
 use Rattle.cell_store.specs.declared.heads.More.TheVariants.{Nothing, Own, Common}
@@ -13,42 +10,15 @@ use Rattle.cell_store.specs.declared.index.Node.{Node}
 use Rattle.cell_store.specs.declared.index.Place.{Place}
 use Rattle.cell_store.specs.declared.maps.Maps.{Maps}
 use Rattle.cell_store.specs.inner.Heads.{is_own, has_map}
-use Rattle.cell_store.specs.inner.Lists.{key_at, place_in, held_in, link_in, bound, held_at, link_at, first_in, listed, or_else, firsts, HeadSet, IsIndex, AreLists, IsLink, IsOn, IsReached, Any, Below, without_late, IsEmptied, way_from, start_after}
+use Rattle.cell_store.specs.inner.Lists.{key_at, place_in, held_at, link_at, first_in, listed, or_else, firsts, HeadSet, AreLists, IsLink, IsOn, IsReached, Any, Below, without_late, IsEmptied, way_from, start_after}
+use Rattle.cell_store.specs.inner.SignalCells.{kept_at}
 use Rattle.cell_store.specs.inner.Maps.{owner_at, cells_at, common_at, mapped_by, mapped_in, IsAdded, IsWhole}
-use Rattle.cell_store.proofs.Found.{some_same, none_some}
-use Rattle.cell_store.proofs.Links.{Cell, cell_same, key_is, same_or_not, not_one}
+use Rattle.cell_store.proofs.Found.{none_some}
+use Rattle.cell_store.proofs.Links.{Cell, cell_same, key_is, same_or_not}
 use Rattle.cell_store.proofs.Listed.{found_at, found_from, listed_is}
 use Rattle.cell_store.proofs.Nodes.{held_within}
 use Rattle.cell_store.proofs.Indexed.{IsNode, node_of}
-use Rattle.cell_store.proofs.Owned.{not_own, nothing_common, by_common, by_own, set_here, set_else}
-
-pub same_start : (a b : ℕ) → is_eq (nat_cmp a b) ≡ nat_eq a b
-same_start a b = grind (arith, nat_tests)
-
-pub to_le : (a b : ℕ) → a ≤ b → is_gt (nat_cmp a b) ≡ false
-to_le a b h = grind (arith, nat_tests)
-
-pub from_le : (a b : ℕ) → is_gt (nat_cmp a b) ≡ false → a ≤ b
-from_le a b h = grind (arith, nat_tests)
-
-pub not_less : (a b : ℕ) → is_lt (nat_cmp a b) ≡ false → b ≤ a
-not_less a b h = grind (arith, nat_tests)
-
-pub none_there : (places : List (ℕ × Place)) → length places ≡ 0 → (t : ℕ) → lookup (is_at (nat_cmp t)) places ≡ None
-none_there [] h t = refl
-none_there (e ∷ places) h t = absurd (omega (arith, h))
-
--- a start gets another place, and then what it had
-pub put_back_own : {V : Type 0} (f g h : ℕ → Option V) (k : ℕ) (o had : Option V) → had ≡ f k → ((q : ℕ) → g q ≡ cond (is_eq (nat_cmp k q)) o (f q)) → ((q : ℕ) → h q ≡ cond (is_eq (nat_cmp k q)) had (g q)) → (q : ℕ) → h q ≡ f q
-put_back_own f g h k o had was came back q =
-    back q ∙ ap (cond (is_eq (nat_cmp k q)) had) (came q)
-    ∙ (elim (is_eq (nat_cmp k q)) as (λ b. is_eq (nat_cmp k q) ≡ b → cond b had (cond b o (f q)) ≡ f q) [
-      | true ↦ λ e. was ∙ ap f (eqb-true k q (sym (same_start k q) ∙ e))
-      | false ↦ λ e. refl
-    ]) refl
-
-not_lt : (a b : ℕ) → b ≤ a → nat_lt a b ≡ false
-not_lt a b h = grind (arith, nat_tests)
+use Rattle.cell_store.proofs.Owned.{not_own, nothing_common, by_common, set_here, set_else}
 
 -- the cells that are on the way behind a node are not yet in the map, and all others of the signal are
 pub record IsCopied (nodes : List Node) (signal : ℕ) (at : Option ℕ) (cells : ℕ → Option Place) : Type 0 where
@@ -134,13 +104,19 @@ module _ (nodes : List Node) (heads : ℕ → Head) (lists : AreLists (held_at n
     here_is : (o : here i) → o.key ≡ key_at signal n.start
     here_is o =
         let m : IsNode nodes i o.key o.place = node_of nodes i o.key o.place o.at in
-        key_is o.key (key_at signal n.start) o.of (ap (λ (d : Key). d.start) (sym m.key) ∙ ap (λ (d : Node). d.start) (some_same m.node n (sym m.at ∙ is)))
+        key_is o.key (key_at signal n.start) o.of (ap (λ (d : Key). d.start) (sym m.key) ∙ ap (λ (d : Node). d.start) (same_Some m.node n (sym m.at ∙ is)))
 
     here_place : (o : here i) → o.place ≡ place_in n
-    here_place o = let m : IsNode nodes i o.key o.place = node_of nodes i o.key o.place o.at in sym m.place ∙ ap place_in (some_same m.node n (sym m.at ∙ is))
+    here_place o = let m : IsNode nodes i o.key o.place = node_of nodes i o.key o.place o.at in sym m.place ∙ ap place_in (same_Some m.node n (sym m.at ∙ is))
 
     here_held : (o : here i) → held_at nodes i ≡ Some (key_at signal n.start, place_in n)
     here_held o = o.at ∙ ap₂ (λ (k : Key) (p : Place). Some (k, p)) (here_is o) (here_place o)
+
+    -- this cell is not yet in the map
+    pub copies_new : (cells : ℕ → Option Place) → IsCopied nodes signal at cells → cells n.start ≡ None
+    copies_new cells c =
+        let way : way_from nodes at ≡ suc n.start = ap (way_from nodes) to ∙ ap start_after is in
+        c.copied n.start ∙ ap (λ (b : Bool). cond b None (listed nodes (key_at signal n.start))) (lt-ltb n.start (way_from nodes at) (omega (arith, way)))
 
     pub copies_more : (cells more : ℕ → Option Place) → IsCopied nodes signal at cells → ((t : ℕ) → more t ≡ cond (nat_eq n.start t) (Some (place_in n)) (cells t)) → IsCopied nodes signal (link_at nodes i) more
     copies_more cells more c came =
@@ -162,9 +138,9 @@ module _ (nodes : List Node) (heads : ℕ → Head) (lists : AreLists (held_at n
             (λ (e : n.start ≡ t).
             ap (λ (b : Bool). cond b (Some (place_in n)) had) (eq-eqb n.start t e)
             ∙ sym (found_at nodes i (key_at signal t) (place_in n) lists.once (here_held o ∙ ap (λ (s : ℕ). Some (key_at signal s, place_in n)) e))
-            ∙ sym (ap (λ (b : Bool). cond b None (listed nodes (key_at signal t))) (not_lt t (way_from nodes (link_at nodes i)) (omega (arith, low, e)))))
+            ∙ sym (ap (λ (b : Bool). cond b None (listed nodes (key_at signal t))) (le-ltb t (way_from nodes (link_at nodes i)) (omega (arith, low, e)))))
             (λ (d : nat_eq n.start t ≡ false).
-            let unequal = not_one n.start t d in
+            let unequal = eqb-false n.start t d in
             ap (λ (b : Bool). cond b (Some (place_in n)) had) d ∙ is_had
             ∙ (elim (nat_lt t n.start) as (λ b. nat_lt t n.start ≡ b → cond (nat_lt t (way_from nodes at)) None (listed nodes (key_at signal t)) ≡ cond (nat_lt t (way_from nodes (link_at nodes i))) None (listed nodes (key_at signal t))) [
               | true ↦ λ e.
@@ -177,8 +153,8 @@ module _ (nodes : List Node) (heads : ℕ → Head) (lists : AreLists (held_at n
               | false ↦ λ e.
                   let most : n.start ≤ t = ltb-false t n.start e in
                   let past : suc n.start ≤ t = strict n.start t most unequal in
-                  ap (λ (b : Bool). cond b None (listed nodes (key_at signal t))) (not_lt t (way_from nodes at) (omega (arith, past, way)))
-                  ∙ sym (ap (λ (b : Bool). cond b None (listed nodes (key_at signal t))) (not_lt t (way_from nodes (link_at nodes i)) (omega (arith, past, low))))
+                  ap (λ (b : Bool). cond b None (listed nodes (key_at signal t))) (le-ltb t (way_from nodes at) (omega (arith, past, way)))
+                  ∙ sym (ap (λ (b : Bool). cond b None (listed nodes (key_at signal t))) (le-ltb t (way_from nodes (link_at nodes i)) (omega (arith, past, low))))
             ]) refl)
             (same_or_not n.start t)
           where
@@ -187,7 +163,7 @@ module _ (nodes : List Node) (heads : ℕ → Head) (lists : AreLists (held_at n
 
   pub copied_all : (at : Option ℕ) (cells : ℕ → Option Place) → IsCopied nodes signal at cells → at ≡ None → (t : ℕ) → cells t ≡ listed nodes (key_at signal t)
   copied_all at cells c none t =
-      c.copied t ∙ ap (λ (b : Bool). cond b None (listed nodes (key_at signal t))) (not_lt t (way_from nodes at) (let way : way_from nodes at ≡ 0 = ap (way_from nodes) none in omega (arith, way)))
+      c.copied t ∙ ap (λ (b : Bool). cond b None (listed nodes (key_at signal t))) (le-ltb t (way_from nodes at) (let way : way_from nodes at ≡ 0 = ap (way_from nodes) none in omega (arith, way)))
 
   -- ---- freeing
   stays_early : (c : Cell) (w : ℕ) → c.0.start < w → without_late signal w (Some c) ≡ Some c
@@ -201,7 +177,7 @@ module _ (nodes : List Node) (heads : ℕ → Head) (lists : AreLists (held_at n
   stays_other c w h = ap (λ (b : Bool). cond (b && not (nat_lt c.0.start w)) None (Some c)) h
 
   goes_late : (c : Cell) (w : ℕ) → c.0.signal ≡ signal → w ≤ c.0.start → without_late signal w (Some c) ≡ None
-  goes_late c w of late = ap₂ (λ (a b : Bool). cond (a && not b) None (Some c)) (eq-eqb c.0.signal signal of) (not_lt c.0.start w late)
+  goes_late c w of late = ap₂ (λ (a b : Bool). cond (a && not b) None (Some c)) (eq-eqb c.0.signal signal of) (le-ltb c.0.start w late)
 
   pub empties_none : IsEmptying nodes signal (firsts heads signal) nodes
   empties_none = record {
@@ -270,7 +246,7 @@ module _ (nodes : List Node) (heads : ℕ → Head) (lists : AreLists (held_at n
         by : (j : ℕ) (c : Cell) → held_at nodes j ≡ Some c → held_at now j ≡ without_late signal (way_from nodes at) (Some c) → (c.0.signal ≡ signal) ⊎ (nat_eq c.0.signal signal ≡ false)
             → cond (nat_eq i j) None (held_at now j) ≡ without_late signal (way_from nodes (link_at nodes i)) (Some c)
         by j c e h (inr d) =
-            cells_stay j c (apart j c e (λ s. not_one c.0.signal signal d (ap (λ (k : Key). k.signal) s ∙ at_node.of))) (h ∙ stays_other c (way_from nodes at) d)
+            cells_stay j c (apart j c e (λ s. eqb-false c.0.signal signal d (ap (λ (k : Key). k.signal) s ∙ at_node.of))) (h ∙ stays_other c (way_from nodes at) d)
             ∙ sym (stays_other c (way_from nodes (link_at nodes i)) d)
         by j c e h (inl of) =
             (elim (nat_lt c.0.start at_node.key.start) as (λ b. nat_lt c.0.start at_node.key.start ≡ b → cond (nat_eq i j) None (held_at now j) ≡ without_late signal (way_from nodes (link_at nodes i)) (Some c)) [
@@ -294,7 +270,7 @@ module _ (nodes : List Node) (heads : ℕ → Head) (lists : AreLists (held_at n
                 ap (λ (b : Bool). cond b None (held_at now j)) (eq-eqb i j (lists.once i j at_node.key at_node.place c.1 at_node.at (e ∙ ap (λ (k : Key). Some (k, c.1)) same))))
                 (λ (d : nat_eq c.0.start at_node.key.start ≡ false).
                 let way = way_now in
-                let unequal = not_one c.0.start at_node.key.start d in
+                let unequal = eqb-false c.0.start at_node.key.start d in
                 ap (λ (o : Option Cell). cond (nat_eq i j) None o) (h ∙ goes_late c (way_from nodes at) of (omega (arith, most, way, unequal))) ∙ nothing (nat_eq i j))
                 (same_or_not c.0.start at_node.key.start)
 
@@ -308,8 +284,8 @@ pub record HasMoved (nodes new : List Node) (heads heads' : ℕ → Head) (maps 
   pub same : (q : Key) → or_else (listed new q) (mapped_in heads' maps' q) ≡ or_else (listed nodes q) (mapped_in heads maps q)
   pub unlisted : (q : Key) → listed nodes q ≡ None → listed new q ≡ None
 
-module _ (nodes : List Node) (heads : ℕ → Head) (maps : Maps) (w : IsWhole nodes heads maps) (signal : ℕ) (alone : (heads signal).more ≡ Nothing) (cells : BTreeMap ℕ Place)
-    (copied : (t : ℕ) → get nat_cmp cells t ≡ listed nodes (key_at signal t)) (maps' : Maps) (n : ℕ) (added : IsAdded maps maps' signal cells n) (new : List Node) (emptied : IsEmptied nodes new signal) (heads' : ℕ → Head)
+module _ (nodes : List Node) (heads : ℕ → Head) (maps : Maps) (w : IsWhole nodes heads maps) (signal : ℕ) (alone : (heads signal).more ≡ Nothing) (cells : List (ℕ × Place))
+    (copied : (t : ℕ) → kept_at cells t ≡ listed nodes (key_at signal t)) (maps' : Maps) (n : ℕ) (added : IsAdded maps maps' signal cells n) (new : List Node) (emptied : IsEmptied nodes new signal) (heads' : ℕ → Head)
     (set : HeadSet heads heads' signal (record { first = n; many = 0; more = Own })) where
   abbrev head : Head
   head = record { first = n; many = 0; more = Own }
@@ -320,7 +296,7 @@ module _ (nodes : List Node) (heads : ℕ → Head) (maps : Maps) (w : IsWhole n
         | None ↦ λ e d. none_some (k, p) d
         | Some c ↦ λ e d.
             (elim (nat_eq c.0.signal signal) as (λ b. nat_eq c.0.signal signal ≡ b → cond (b && not (nat_lt c.0.start 0)) None (Some c) ≡ some_one k p → (nat_eq k.signal signal ≡ false) × (Some c ≡ some_one k p)) [
-              | true ↦ λ t f. none_some (k, p) (sym (ap (λ (b : Bool). cond (not b) None (Some c)) (not_lt c.0.start 0 (omega arith))) ∙ f)
+              | true ↦ λ t f. none_some (k, p) (sym (ap (λ (b : Bool). cond (not b) None (Some c)) (le-ltb c.0.start 0 (omega arith))) ∙ f)
               | false ↦ λ t f. (sym (ap (λ (d : Key). nat_eq d.signal signal) (cell_same c.0 k c.1 p f).0) ∙ t, f)
             ]) refl d
       ]) refl (sym (emptied.held j) ∙ at)
@@ -332,7 +308,7 @@ module _ (nodes : List Node) (heads : ℕ → Head) (maps : Maps) (w : IsWhole n
   keeps j k p at d = emptied.held j ∙ ap (without_late signal 0) at ∙ ap (λ (b : Bool). cond (b && not (nat_lt k.start 0)) None (Some (k, p))) d
 
   swapped : (a b : ℕ) → nat_eq a b ≡ false → nat_eq b a ≡ false
-  swapped a b d = ne_eqb b a (λ e. not_one a b d (sym e))
+  swapped a b d = ne_eqb b a (λ e. eqb-false a b d (sym e))
 
   link_stays : (s : ℕ) (Low : ℕ → Type 0) (link : Option ℕ) → nat_eq s signal ≡ false → IsLink (held_at nodes) s Low link → IsLink (held_at new) s Low link
   link_stays s Low link d l = record {
@@ -347,7 +323,7 @@ module _ (nodes : List Node) (heads : ℕ → Head) (maps : Maps) (w : IsWhole n
   no_link : IsLink (held_at new) signal Any None
   no_link = record {
     on = λ i to. none_some i to;
-    last = λ i k p at of low. absurd (not_one k.signal signal (stays i k p at).0 of);
+    last = λ i k p at of low. absurd (eqb-false k.signal signal (stays i k p at).0 of);
   }
 
   lists_new : AreLists (held_at new) (link_at new) (firsts heads')
@@ -371,14 +347,14 @@ module _ (nodes : List Node) (heads : ℕ → Head) (maps : Maps) (w : IsWhole n
   mapped_else q d =
       ap (λ (h : Head). mapped_by h maps' q) (set_else heads heads' signal head set q.signal d)
       ∙ (elim (is_own (heads q.signal).more) as (λ b. is_own (heads q.signal).more ≡ b → cond b (cells_at maps' (heads q.signal).first q.start) (common_at maps' q) ≡ cond b (cells_at maps (heads q.signal).first q.start) (common_at maps q)) [
-        | true ↦ λ own. added.cells (heads q.signal).first q.start ∙ ap (λ (b : Bool). cond b (get nat_cmp cells q.start) (cells_at maps (heads q.signal).first q.start)) (other_map q.signal own)
+        | true ↦ λ own. added.cells (heads q.signal).first q.start ∙ ap (λ (b : Bool). cond b (kept_at cells q.start) (cells_at maps (heads q.signal).first q.start)) (other_map q.signal own)
         | false ↦ λ own. added.common q
       ]) refl
 
   mapped_here : (q : Key) → signal ≡ q.signal → mapped_in heads' maps' q ≡ listed nodes q
   mapped_here q e =
       ap (λ (h : Head). mapped_by h maps' q) (set_here heads heads' signal head set q.signal e) ∙ added.cells n q.start
-      ∙ ap (λ (b : Bool). cond b (get nat_cmp cells q.start) (cells_at maps n q.start)) (eq-eqb n n refl)
+      ∙ ap (λ (b : Bool). cond b (kept_at cells q.start) (cells_at maps n q.start)) (eq-eqb n n refl)
       ∙ copied q.start ∙ ap (listed nodes) (key_is (key_at signal q.start) q e refl)
 
   none_before : (q : Key) → signal ≡ q.signal → mapped_in heads maps q ≡ None
@@ -390,7 +366,7 @@ module _ (nodes : List Node) (heads : ℕ → Head) (maps : Maps) (w : IsWhole n
       ]) refl
 
   listed_here : (q : Key) → signal ≡ q.signal → listed new q ≡ None
-  listed_here q e = listed_is new q None lists_new.once (λ p d. none_some p d) (λ i p at. absurd (not_one q.signal signal (stays i q p at).0 (sym e)))
+  listed_here q e = listed_is new q None lists_new.once (λ p d. none_some p d) (λ i p at. absurd (eqb-false q.signal signal (stays i q p at).0 (sym e)))
 
   listed_else : (q : Key) → nat_eq signal q.signal ≡ false → listed new q ≡ listed nodes q
   listed_else q d =

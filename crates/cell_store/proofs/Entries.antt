@@ -4,6 +4,7 @@ use Rattle.std.proofs.lemmas.List.{length-append}
 use Rattle.std.proofs.lemmas.List.Elements.{All-head, All-tail, All-cons}
 use Rattle.std.specs.List.{slice_get}
 use Rattle.std.specs.Map.{lookup_entry, remove_entry}
+use Rattle.std.proofs.lemmas.Option.{same_Some}
 use Rattle.valid_intervals.specs.Spans.{IsSpan}
 use Rattle.valid_intervals.specs.declared.SignalCell.{SignalCell}
 use Rattle.valid_intervals.specs.Cells.{same_stored}
@@ -11,7 +12,7 @@ use Rattle.cell_store.specs.Recency.{IsApart, AreApart}
 use Rattle.cell_store.specs.inner.Index.{cells_of, times, uses_of, places_of, AreSlots}
 use Rattle.cell_store.proofs.Same.{same_stored-itself}
 use Rattle.cell_store.proofs.Keys.{told_apart}
-use Rattle.cell_store.proofs.Found.{some_same, none_some, found_true}
+use Rattle.cell_store.proofs.Found.{none_some, found_true}
 use Rattle.cell_store.proofs.Cached.{all_kept, all_differ}
 
 abbrev pub CacheEntry : Type 0
@@ -30,7 +31,7 @@ past_end (y ∷ ys) (suc n) h = omega (arith, past_end ys n h)
 pub split_last : {X : Type 0} (xs : List X) (n : ℕ) (x : X) → length xs ≡ n + 1 → slice_get xs n ≡ Some x → xs ≡ take n xs ++ x ∷ []
 split_last [] n x many h = none_some x h
 split_last (y ∷ z ∷ zs) zero x many h = absurd (omega arith)
-split_last {X = X} (y ∷ []) zero x many h = ap (λ (u : X). u ∷ []) (some_same y x h)
+split_last {X = X} (y ∷ []) zero x many h = ap (λ (u : X). u ∷ []) (same_Some y x h)
 split_last {X = X} (y ∷ ys) (suc n) x many h = ap (λ (l : List X). y ∷ l) (split_last ys n x (omega arith) h)
 
 -- a search among the cells is one among the entries
@@ -64,7 +65,7 @@ found_is_used f [] slot x h = none_some (slot, x) h
 found_is_used f (e ∷ es) slot x h =
     (elim (f e.1) as (λ b. cond b (Some e) (find (λ (d : CacheEntry). f d.1) es) ≡ Some (slot, x) → 1 ≤ cond (nat_eq slot e.0) 1 0 + uses_of slot es) [
       | true ↦ λ d.
-          let itself : nat_eq slot e.0 ≡ true = eq-eqb slot e.0 (ap (λ (c : CacheEntry). c.0) (sym (some_same e (slot, x) d))) in
+          let itself : nat_eq slot e.0 ≡ true = eq-eqb slot e.0 (ap (λ (c : CacheEntry). c.0) (sym (same_Some e (slot, x) d))) in
           subst (λ b. 1 ≤ cond b 1 0 + uses_of slot es) (sym itself) (omega arith)
       | false ↦ λ d. omega (arith, found_is_used f es slot x d)
     ]) h
@@ -100,7 +101,7 @@ taken (d ∷ ds) f slot x spans apart once h =
     let others : List SignalCell = filter (λ y. not (same_stored x y)) (cells_of ds) in
     (elim (f d.1) as (λ b. f d.1 ≡ b → cond b (Some d) (find (λ (e : CacheEntry). f e.1) ds) ≡ Some (slot, x) → IsTaken (d ∷ ds) slot x) [
       | true ↦ λ t e.
-          let is : d ≡ (slot, x) = some_same d (slot, x) e in
+          let is : d ≡ (slot, x) = same_Some d (slot, x) e in
           let at : d.1 ≡ x = ap (λ (c : CacheEntry). c.1) is in
           subst (λ (c : CacheEntry). IsTaken (c ∷ ds) slot x) (sym is)
           (taken_first ds slot x (subst (λ (z : SignalCell). IsSpan z.cell.span) at (All-head (λ y. IsSpan y.cell.span) d.1 (cells_of ds) spans)) (subst (λ (z : SignalCell). All (IsApart z) (cells_of ds)) at apart.0))
@@ -135,7 +136,7 @@ pub moved : (test : ℕ → Bool) (es : List CacheEntry) (e : CacheEntry) → lo
 moved test [] e h = none_some e h
 moved test (d ∷ ds) e h =
     (elim (test d.0) as (λ b. cond b (Some d) (lookup_entry test ds) ≡ Some e → IsMoved (d ∷ ds) (e ∷ cond b ds (d ∷ remove_entry test ds))) [
-      | true ↦ λ t. subst (λ (c : CacheEntry). IsMoved (c ∷ ds) (e ∷ ds)) (sym (some_same d e t)) (record { uses = λ s. refl; many = refl })
+      | true ↦ λ t. subst (λ (c : CacheEntry). IsMoved (c ∷ ds) (e ∷ ds)) (sym (same_Some d e t)) (record { uses = λ s. refl; many = refl })
       | false ↦ λ t.
           let on : IsMoved ds (e ∷ remove_entry test ds) = moved test ds e t in
           record { uses = λ s. omega (arith, on.uses s); many = omega (arith, on.many) }

@@ -1,6 +1,7 @@
 -- What a search among cells that are apart finds.
 use Rattle.std.proofs.Common.{◌≡◌, ◌⊎◌, inl, inr, ⊎_elim, ℕ, ◌<◌, ◌≤◌, Bool, true, false, cond, List, [], ◌∷◌, All, Option, Some, None, IsSome, option_map, find, refl, sym, ap, subst, ◌∙◌, true≢false, arith}
 use Rattle.std.proofs.lemmas.List.Elements.{All-head, All-tail}
+use Rattle.std.proofs.lemmas.Option.{same_Some}
 use Rattle.valid_intervals.specs.Spans.{IsSpan}
 use Rattle.valid_intervals.specs.declared.Point.{Point}
 use Rattle.valid_intervals.specs.declared.SignalCell.{SignalCell}
@@ -10,9 +11,6 @@ use Rattle.cell_store.specs.Recency.{key_of, IsApart, AreApart}
 use Rattle.cell_store.specs.inner.Index.{has_key, IsStoreIndex}
 use Rattle.cell_store.proofs.Keys.{IsCovered, covers_true, covers_from, first_point, covers_first, shares_first, has_key-true, has_key-itself, AtMost}
 
-pub some_same : {X : Type 0} (x y : X) → Some x ≡ Some y → x ≡ y
-some_same x y h = cc h
-
 pub none_some : {X : Type 0} {P : Type 0} (x : X) → None ≡ Some x → P
 none_some x h = absurd (cc h)
 
@@ -20,7 +18,7 @@ pub found_true : {X : Type 0} (f : X → Bool) (xs : List X) (x : X) → find f 
 found_true f [] x h = none_some x h
 found_true f (y ∷ ys) x h =
     (elim (f y) as (λ b. f y ≡ b → cond b (Some y) (find f ys) ≡ Some x → f x ≡ true) [
-      | true ↦ λ t e. subst (λ z. f z ≡ true) (some_same y x e) t
+      | true ↦ λ t e. subst (λ z. f z ≡ true) (same_Some y x e) t
       | false ↦ λ t e. found_true f ys x e
     ]) refl h
 
@@ -28,7 +26,7 @@ pub found_all : {X : Type 0} (P : X → Type 0) (f : X → Bool) (xs : List X) (
 found_all P f [] x all h = none_some x h
 found_all P f (y ∷ ys) x all h =
     (elim (f y) as (λ b. cond b (Some y) (find f ys) ≡ Some x → P x) [
-      | true ↦ λ e. subst P (some_same y x e) (All-head P y ys all)
+      | true ↦ λ e. subst P (same_Some y x e) (All-head P y ys all)
       | false ↦ λ e. found_all P f ys x (All-tail P y ys all) e
     ]) h
 
@@ -40,7 +38,7 @@ missed f g (y ∷ ys) x h none =
       | true ↦ λ t e. none_some y (sym e)
       | false ↦ λ t e.
           (elim (f y) as (λ b. cond b (Some y) (find f ys) ≡ Some x → g x ≡ false) [
-            | true ↦ λ d. subst (λ z. g z ≡ false) (some_same y x d) t
+            | true ↦ λ d. subst (λ z. g z ≡ false) (same_Some y x d) t
             | false ↦ λ d. missed f g ys x d e
           ]) h
     ]) refl none
@@ -56,12 +54,12 @@ module _ where
       (elim (f z) as (λ b. cond b (Some z) (find f zs) ≡ Some x → (x ≡ y) ⊎ IsApart x y) [
         | true ↦ λ d.
             (elim (g z) as (λ c. cond c (Some z) (find g zs) ≡ Some y → (x ≡ y) ⊎ IsApart x y) [
-              | true ↦ λ e. inl (sym (some_same z x d) ∙ some_same z y e)
-              | false ↦ λ e. inr (subst (λ w. IsApart w y) (some_same z x d) (found_all (IsApart z) g zs y apart.0 e))
+              | true ↦ λ e. inl (sym (same_Some z x d) ∙ same_Some z y e)
+              | false ↦ λ e. inr (subst (λ w. IsApart w y) (same_Some z x d) (found_all (IsApart z) g zs y apart.0 e))
             ]) k
         | false ↦ λ d.
             (elim (g z) as (λ c. cond c (Some z) (find g zs) ≡ Some y → (x ≡ y) ⊎ IsApart x y) [
-              | true ↦ λ e. inr (subst (λ w. IsApart x w) (some_same z y e) (flip z x (found_all (IsApart z) f zs x apart.0 d)))
+              | true ↦ λ e. inr (subst (λ w. IsApart x w) (same_Some z y e) (flip z x (found_all (IsApart z) f zs x apart.0 d)))
               | false ↦ λ e. two_found f g zs x y apart.1 d e
             ]) k
       ]) h
@@ -102,7 +100,7 @@ pub holds : (end_of : Key → Option ℕ) (cells : List SignalCell) (k : Key) (e
 holds end_of cells k end index at =
     (elim (find (has_key k) cells) as (λ o. find (has_key k) cells ≡ o → option_map (λ (x : SignalCell). x.cell.span.stop) o ≡ Some end → Holds cells k end) [
       | None ↦ λ e d. none_some end d
-      | Some x ↦ λ e d. record { cell = x; found = e; key = has_key-true k x (found_true (has_key k) cells x e); end = some_same x.cell.span.stop end d }
+      | Some x ↦ λ e d. record { cell = x; found = e; key = has_key-true k x (found_true (has_key k) cells x e); end = same_Some x.cell.span.stop end d }
     ]) refl (sym (index.ends k) ∙ at)
 
 -- the index has the end of a cell that is found

@@ -1,6 +1,7 @@
 -- The most recently used cell, where it covers the point that is looked for.
 use Rattle.std.proofs.Common.{◌≡◌, ℕ, true, cond, not, List, [], ◌∷◌, filter, Option, Some, find, sym, ap, subst, ◌∙◌}
 use Rattle.std.proofs.lemmas.List.Elements.{All-head}
+use Rattle.std.proofs.lemmas.Option.{same_Some}
 use Rattle.valid_intervals.specs.Spans.{IsSpan}
 use Rattle.valid_intervals.specs.declared.Cell.{Cell}
 use Rattle.valid_intervals.specs.declared.Point.{Point}
@@ -10,13 +11,13 @@ use Rattle.cell_store.specs.declared.Key.{Key}
 use Rattle.cell_store.specs.inner.Index.{cells_of, IsInFront, IsStoreIndex}
 use Rattle.cell_store.proofs.Same.{same_stored-itself}
 use Rattle.cell_store.proofs.Keys.{covers_true}
-use Rattle.cell_store.proofs.Found.{some_same, none_some}
+use Rattle.cell_store.proofs.Found.{none_some}
 use Rattle.cell_store.proofs.Cached.{all_kept, all_differ}
 use Rattle.cell_store.proofs.Entries.{CacheEntry}
 
 in_front : (e : CacheEntry) (es : List CacheEntry) (p : Point) (cell : Cell) → IsInFront (e ∷ es) p cell → e.1 ≡ cell_for p cell
 in_front e es p cell f =
-    ap (λ (d : CacheEntry). d.1) (some_same e (f.slot, f.x) f.front)
+    ap (λ (d : CacheEntry). d.1) (same_Some e (f.slot, f.x) f.front)
     ∙ ap (λ (s : ℕ). record { signal = s; cell = f.x.cell }) (covers_true p f.x f.covering).signal
     ∙ ap (cell_for p) (sym f.is)
 
@@ -24,7 +25,7 @@ in_front e es p cell f =
 pub front_found : (entries : List CacheEntry) (p : Point) (cell : Cell) → IsInFront entries p cell → stored_at (cells_of entries) p ≡ Some (cell_for p cell)
 front_found [] p cell f = none_some (f.slot, f.x) f.front
 front_found (e ∷ es) p cell f =
-    let there : covers p e.1 ≡ true = subst (λ (d : CacheEntry). covers p d.1 ≡ true) (sym (some_same e (f.slot, f.x) f.front)) f.covering in
+    let there : covers p e.1 ≡ true = subst (λ (d : CacheEntry). covers p d.1 ≡ true) (sym (same_Some e (f.slot, f.x) f.front)) f.covering in
     ap (λ b. cond b (Some e.1) (find (covers p) (cells_of es))) there ∙ ap (λ (x : SignalCell). Some x) (in_front e es p cell f)
 
 -- and to use it changes nothing

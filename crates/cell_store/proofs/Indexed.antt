@@ -1,8 +1,9 @@
 -- What an index keeps, and what its calls say of it.
-use Rattle.std.proofs.Common.{◌≡◌, ◌⊎◌, inl, inr, ⊎_elim, ℕ, zero, suc, ◌<◌, ◌≤◌, Bool, true, false, ◌&&◌, cond, nat_eq, nat_lt, List, [], ◌∷◌, length, Option, Some, None, IsSome, IfSome, IfNone, option_map, refl, sym, ap, subst, ◌∙◌, true≢false, eq-eqb, eqb-true, arith}
-use Rattle.std.proofs.lemmas.Bool.{ltb-true, ltb-false}
+use Rattle.std.proofs.Common.{◌≡◌, ◌⊎◌, inl, inr, ⊎_elim, ℕ, ◌<◌, ◌≤◌, Bool, true, false, ◌&&◌, cond, nat_eq, nat_lt, List, Option, Some, None, IsSome, IfSome, IfNone, option_map, refl, sym, ap, subst, ◌∙◌, true≢false, eq-eqb, eqb-true, arith}
+use Rattle.std.proofs.lemmas.Bool.{ltb-true, ltb-false, eqb-false}
 use Rattle.std.specs.List.{slice_get}
 use Rattle.std.specs.Ordering.{is_eq}
+use Rattle.std.proofs.lemmas.Option.{same_Some}
 use Rattle.valid_intervals.specs.declared.Point.{Point}
 use Rattle.cell_store.specs.declared.Key.{Key}
 use Rattle.cell_store.specs.declared.heads.Head.{Head}
@@ -11,10 +12,10 @@ use Rattle.cell_store.specs.declared.index.Node.{Node}
 use Rattle.cell_store.specs.declared.index.Gap.{Gap}
 use Rattle.cell_store.specs.inner.Heads.{has_map}
 use Rattle.cell_store.specs.inner.Index.{key_cmp}
-use Rattle.cell_store.specs.inner.Lists.{key_at, place_in, held_in, link_in, bound, held_at, link_at, first_in, listed, or_else, firsts, IsIndex, AreLists, IsLink, IsOn, Below, IsReached, IsAfter, IsBefore, IsGap, IsLastAt, IsNoneAt, IsPutIn, IsTakenOut, IsListed, HeadSet, AreSteady, AreAllSteady, longer_first, shorter_first, place_starting, starts_at, start_and_place, later_of}
-use Rattle.cell_store.proofs.Found.{some_same, none_some}
+use Rattle.cell_store.specs.inner.Lists.{key_at, place_in, held_in, bound, held_at, link_at, first_in, listed, or_else, firsts, IsIndex, AreLists, IsOn, Below, IsReached, IsAfter, IsBefore, IsGap, IsLastAt, IsNoneAt, IsTakenOut, IsListed, HeadSet, AreAllSteady, longer_first, shorter_first, place_starting, starts_at, start_and_place, later_of}
+use Rattle.cell_store.proofs.Found.{none_some}
 use Rattle.cell_store.proofs.Keys.{equal_keys}
-use Rattle.cell_store.proofs.Links.{Same, Cell, Held, some_cell, cell_same, key_is, same_or_not, not_one, was_held, left}
+use Rattle.cell_store.proofs.Links.{Same, Cell, Held, some_cell, cell_same, key_is, same_or_not, was_held, left}
 use Rattle.cell_store.proofs.Lists.{last_before, same_links, added_in_front, added_behind, removed_in_front, removed_behind}
 use Rattle.cell_store.proofs.Listed.{Once, found_at, found_from, listed_is, listed_same, listed_more, listed_less, else_more, else_less, else_changed}
 
@@ -53,7 +54,7 @@ module _ (nodes : List Node) (heads : ℕ → Head) (mapped : Key → Option Pla
     key_after a to n at =
         let f : IsAfter (held_at nodes) signal start a = after_at a to in
         let m : IsNode nodes a f.key f.place = node_of nodes a f.key f.place f.at in
-        let same : m.node ≡ n = some_same m.node n (sym m.at ∙ at) in
+        let same : m.node ≡ n = same_Some m.node n (sym m.at ∙ at) in
         let key : f.key ≡ key_at signal n.start = sym m.key ∙ key_is (key_at m.node.signal m.node.start) (key_at signal n.start) (ap (λ (k : Key). k.signal) m.key ∙ f.of) (ap (λ (o : Node). o.start) same) in
         f.at ∙ ap (λ (k : Key). Some (k, f.place)) key ∙ ap (λ (q : Place). Some (key_at signal n.start, q)) (sym m.place ∙ ap place_in same)
 
@@ -79,7 +80,7 @@ module _ (nodes : List Node) (heads : ℕ → Head) (mapped : Key → Option Pla
           | Some p ↦ λ e s.
               let f = found_from nodes k p e in
               let r : IsReached (held_at nodes) gap.after k.start = last_in f.0 k p f.1 of early in
-              let there : r.to ≡ a = some_same r.to a (sym r.is ∙ to) in
+              let there : r.to ≡ a = same_Some r.to a (sym r.is ∙ to) in
               let same = cell_same r.key (key_at signal n.start) r.place (place_in n) (sym r.at ∙ ap (held_at nodes) there ∙ key_after a to n at) in
               subst (λ (j : Key). k.start ≤ j.start) same.0 r.late
         ]) refl some
@@ -124,7 +125,7 @@ module _ (nodes : List Node) (heads : ℕ → Head) (mapped : Key → Option Pla
               (listed_is nodes (key_at signal start) None once (λ p d. none_some p d)
               (λ i p at.
               let r : start ≤ m.0.start = latest a e m.0 m.1 (key_at signal start) refl (omega arith) (subst (λ (w : Option Place). IsSome w) (sym (found_at nodes i (key_at signal start) p once at)) refl) in
-              absurd (not_one m.0.start start not_so (omega (arith, r, early_after a e m.0 m.1))))))
+              absurd (eqb-false m.0.start start not_so (omega (arith, r, early_after a e m.0 m.1))))))
               (same_or_not m.0.start start)
         ]) refl
 
@@ -137,7 +138,7 @@ module _ (nodes : List Node) (heads : ℕ → Head) (mapped : Key → Option Pla
               let m = node_after a e in
               (elim (nat_eq m.0.start start) as (λ b. nat_eq m.0.start start ≡ b → Some i ≡ cond b (Some a) None → (p : Place) × (held_at nodes i ≡ Some (key_at signal start, p)) × (gap.after ≡ Some i)) [
                 | true ↦ λ t g.
-                    let one : a ≡ i = some_same a i (sym g) in (
+                    let one : a ≡ i = same_Some a i (sym g) in (
                       place_in m.0,
                       ap (held_at nodes) (sym one) ∙ key_after a e m.0 m.1 ∙ ap (λ (n : ℕ). Some (key_at signal n, place_in m.0)) (eqb-true m.0.start start t),
                       e ∙ ap (λ (n : ℕ). Some n) one,
@@ -348,7 +349,7 @@ pub counted : (held : Held) (head : Head) (start : ℕ) → IsReached held (firs
 counted held head start r =
     ⊎_elim
     (λ (e : head.many ≡ 0). none_some r.to (sym (ap (λ (b : Bool). cond b None (Some head.first)) (eq-eqb head.many 0 e)) ∙ r.is))
-    (λ (d : nat_eq head.many 0 ≡ false). let n = not_one head.many 0 d in omega (arith, n))
+    (λ (d : nat_eq head.many 0 ≡ false). let n = eqb-false head.many 0 d in omega (arith, n))
     (same_or_not head.many 0)
 
 -- what the map says of a signal that may have something there, it says of any

@@ -1,6 +1,6 @@
 -- What the tests on keys and points say in numbers.
 use Rattle.std.proofs.Common.{◌≡◌, ◌⊎◌, ℕ, ◌<◌, ◌≤◌, Bool, true, false, ◌&&◌, nat_eq, nat_lt, nat_le, refl, sym, ap, ap₂, subst, ◌∙◌, true≢false, eqb-true, eq-eqb, arith}
-use Rattle.std.proofs.lemmas.Bool.{and_parts, and_from, leb-true, ltb-true, le-leb, lt-ltb}
+use Rattle.std.proofs.lemmas.Bool.{and_parts, and_from, leb-true, ltb-true, le-leb, lt-ltb, false_from_ne_true}
 use Rattle.std.proofs.lemmas.Bool.Decides.{nat_tests}
 use Rattle.std.specs.Ordering.{is_eq, is_gt, is_lt}
 use Rattle.valid_intervals.specs.Spans.{IsSpan}
@@ -59,21 +59,17 @@ shares_first x y s t h =
     let start : x.cell.span.start ≡ y.cell.span.start = ap (λ (k : Key). k.start) same in
     covers_from (first_point x) y (record { signal = sym signal; low = let i = start in omega arith; high = let i = start in let j = t.some in omega arith })
 
-flips : (b : Bool) → (b ≡ true → ⊥) → b ≡ false
-flips true h = absurd (h refl)
-flips false h = refl
-
 pub keys_differ : (x y : SignalCell) → IsSpan x.cell.span → IsSpan y.cell.span → IsApart x y → has_key (key_of x) y ≡ false
-keys_differ x y s t apart = flips (has_key (key_of x) y) (λ h. apart (first_point x) (covers_first x s) (shares_first x y s t h))
+keys_differ x y s t apart = false_from_ne_true (has_key (key_of x) y) (λ h. apart (first_point x) (covers_first x s) (shares_first x y s t h))
 
 -- cells that are apart are not the same
 pub differs : (x y : SignalCell) → IsSpan x.cell.span → IsApart x y → same_stored x y ≡ false
 differs x y s apart =
-    flips (same_stored x y) (λ h. apart (first_point x) (covers_first x s) (subst (λ (z : SignalCell). covers (first_point x) z ≡ true) (same_stored-true x y h) (covers_first x s)))
+    false_from_ne_true (same_stored x y) (λ h. apart (first_point x) (covers_first x s) (subst (λ (z : SignalCell). covers (first_point x) z ≡ true) (same_stored-true x y h) (covers_first x s)))
 
 -- nor are those of which a test tells only one
 pub told_apart : (f : SignalCell → Bool) (x y : SignalCell) → f x ≡ true → f y ≡ false → same_stored x y ≡ false
-told_apart f x y told missed = flips (same_stored x y) (λ h. true≢false (sym told ∙ ap f (same_stored-true x y h) ∙ missed))
+told_apart f x y told missed = false_from_ne_true (same_stored x y) (λ h. true≢false (sym told ∙ ap f (same_stored-true x y h) ∙ missed))
 
 -- what the order of keys says
 abbrev pub AtMost : Key → Key → Type 0

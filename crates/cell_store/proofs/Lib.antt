@@ -19,4 +19,5 @@ pub mod Nodes
 pub mod Pages
 pub mod Results
 pub mod Owned
+pub mod Starts
 pub mod Emptied

@@ -1,12 +1,14 @@
 -- Lists of nodes: what a new link, a cell more and a cell less keep. `held` says which cell a node has, `link` which node is behind it.
-use Rattle.std.proofs.Common.{◌≡◌, ◌⊎◌, inl, inr, ⊎_elim, ℕ, ◌+◌, ◌<◌, ◌≤◌, Bool, true, false, cond, nat_eq, Option, Some, None, IfSome, IfNone, refl, sym, ap, subst, ◌∙◌, eq-eqb, eqb-true, arith}
+use Rattle.std.proofs.Common.{◌≡◌, ◌⊎◌, inl, inr, ⊎_elim, ℕ, ◌<◌, ◌≤◌, true, false, nat_eq, Option, Some, None, refl, sym, ap, subst, ◌∙◌, arith}
 use Rattle.std.proofs.lemmas.Bool.{eqb-false, cases_lt}
 use Rattle.std.proofs.Math.Nat.{eq-or-lt_of_le}
+use Rattle.std.proofs.Math.Numerals.{lt_of_le_of_ne}
 use Rattle.std.proofs.lemmas.Bool.Decides.{eqb_tells}
+use Rattle.std.proofs.lemmas.Option.{same_Some}
 use Rattle.cell_store.specs.declared.Key.{Key}
 use Rattle.cell_store.specs.declared.index.Place.{Place}
-use Rattle.cell_store.specs.inner.Lists.{IsReached, IsOn, IsLink, Any, Below, AreLists}
-use Rattle.cell_store.proofs.Found.{some_same, none_some}
+use Rattle.cell_store.specs.inner.Lists.{IsReached, IsOn, IsLink, Any, Below}
+use Rattle.cell_store.proofs.Found.{none_some}
 
 abbrev pub Cell : Type 0
 Cell = Key × Place
@@ -33,7 +35,7 @@ pub cell_same : (k j : Key) (p q : Place) → some_cell k p ≡ some_cell j q �
 cell_same k j p q h =
     let a : Cell = (k, p) in
     let b : Cell = (j, q) in
-    let same : a ≡ b = some_same a b h in
+    let same : a ≡ b = same_Some a b h in
     (ap (λ (c : Cell). c.0) same, ap (λ (c : Cell). c.1) same)
 
 abbrev key_with : ℕ → ℕ → Key
@@ -51,9 +53,6 @@ pub three_ways : (x y : ℕ) → (x < y) ⊎ ((x ≡ y) ⊎ (y < x))
 three_ways x y =
     ⊎_elim (λ (l : x < y). inl l) (λ (m : y ≤ x). ⊎_elim (λ (e : y ≡ x). inr (inl (sym e))) (λ (l : y < x). inr (inr l)) (eq-or-lt_of_le m)) (cases_lt x y)
 
-pub not_one : (a b : ℕ) → nat_eq a b ≡ false → a ≡ b → ⊥
-not_one a b h = eqb-false a b h
-
 -- what holds of a node also holds of one that has the same cell
 pub moved_held : (held : Held) (i j : ℕ) (o : Option Cell) → i ≡ j → held j ≡ o → held i ≡ o
 moved_held held i j o is h = ap held is ∙ h
@@ -63,7 +62,7 @@ module _ (held : Held) (signal : ℕ) (Low : ℕ → Type 0) (link : Option ℕ)
   pub reached_at : (j : ℕ) (k : Key) (p : Place) → link ≡ Some j → held j ≡ Some (k, p) → (i : ℕ) (c : Key) (q : Place) → held i ≡ Some (c, q) → c.signal ≡ signal → Low c.start → c.start ≤ k.start
   reached_at j k p to at i c q there of low =
       let r : IsReached held link c.start = l.last i c q there of low in
-      let node : r.to ≡ j = some_same r.to j (sym r.is ∙ to) in
+      let node : r.to ≡ j = same_Some r.to j (sym r.is ∙ to) in
       let same = cell_same r.key k r.place p (sym r.at ∙ ap held node ∙ at) in
       subst (λ (d : Key). c.start ≤ d.start) same.0 r.late
 
@@ -85,7 +84,7 @@ module _ (held new : Held) (i : ℕ) (k : Key) (p : Place) (free : held i ≡ No
   pub was_held : (j : ℕ) (c : Cell) → new j ≡ Some c → ((i ≡ j) × Same c (k, p)) ⊎ (held j ≡ Some c)
   was_held j c at =
       ⊎_elim
-      (λ (e : i ≡ j). inl (e, some_same c (k, p) (sym at ∙ ap new (sym e) ∙ is)))
+      (λ (e : i ≡ j). inl (e, same_Some c (k, p) (sym at ∙ ap new (sym e) ∙ is)))
       (λ e. inr (sym (others j e) ∙ at))
       (same_or_not i j)
 
@@ -120,7 +119,7 @@ module _ (held new : Held) (i : ℕ) (k : Key) (p : Place) (free : held i ≡ No
     -- the link to the new cell
     pub link_to_new : IsLink new signal Low (Some i)
     link_to_new = record {
-      on = λ j to. subst (IsOn new signal Low) (some_same i j to) (record { key = k; place = p; at = is; of = of; low = low });
+      on = λ j to. subst (IsOn new signal Low) (same_Some i j to) (record { key = k; place = p; at = is; of = of; low = low });
       last = λ j c q at same under.
           ⊎_elim
           (λ (e : (i ≡ j) × Same (c, q) (k, p)).
@@ -181,7 +180,7 @@ module _ (held new : Held) (i : ℕ) (k : Key) (p : Place) (was : held i ≡ Som
             let there = left j (c, q) at in
             let most : c.start ≤ k.start = reached_at held signal Low link l i k p to was j c q there.1 same under in
             let unequal : c.start ≡ k.start → ⊥ = λ e. unlike i j there.0 (once i j c p q (was ∙ ap (λ (d : Key). Some (d, p)) (sym (key_is c k (same ∙ sym of.0) e))) there.1) in
-            let r : IsReached held next c.start = n.last j c q there.1 (same ∙ sym of.0) (strict c.start k.start most unequal) in
+            let r : IsReached held next c.start = n.last j c q there.1 (same ∙ sym of.0) (lt_of_le_of_ne most unequal) in
             record {
               to = r.to;
               key = r.key;
@@ -198,8 +197,5 @@ module _ (held new : Held) (i : ℕ) (k : Key) (p : Place) (was : held i ≡ Som
             };
       }
     where
-      strict : (a b : ℕ) → a ≤ b → (a ≡ b → ⊥) → a < b
-      strict a b h n = omega (arith, h, n)
-
       unlike : (a b : ℕ) → nat_eq a b ≡ false → a ≡ b → ⊥
       unlike a b h e = eqb-false a b h e

@@ -1,15 +1,17 @@
 -- The place that the lists have for a key, and what a cell more and a cell less change there.
-use Rattle.std.proofs.Common.{◌≡◌, ◌⊎◌, inl, inr, ⊎_elim, ℕ, zero, suc, ◌<◌, ◌≤◌, Bool, true, false, cond, nat_eq, List, [], ◌∷◌, length, Option, Some, None, refl, sym, ap, subst, ◌∙◌, true≢false, arith}
+use Rattle.std.proofs.Common.{◌≡◌, ⊎_elim, ℕ, zero, suc, Bool, true, false, cond, nat_eq, List, [], ◌∷◌, Option, Some, None, refl, sym, ap, ◌∙◌, true≢false, arith}
 use Rattle.std.proofs.lemmas.Bool.Decides.{nat_tests}
 use Rattle.std.specs.Ordering.{is_eq}
+use Rattle.std.proofs.lemmas.Option.{same_Some}
+use Rattle.std.proofs.lemmas.Bool.{eqb-false}
 use Rattle.cell_store.specs.declared.Key.{Key}
 use Rattle.cell_store.specs.declared.index.Place.{Place}
 use Rattle.cell_store.specs.declared.index.Node.{Node}
 use Rattle.cell_store.specs.inner.Index.{key_cmp}
 use Rattle.cell_store.specs.inner.Lists.{held_in, held_at, place_if, is_of, listed, or_else}
 use Rattle.cell_store.proofs.Keys.{equal_keys}
-use Rattle.cell_store.proofs.Found.{some_same, none_some}
-use Rattle.cell_store.proofs.Links.{Same, Cell, Held, cell_same, same_or_not, not_one, not_free, still_held, was_held, left}
+use Rattle.cell_store.proofs.Found.{none_some}
+use Rattle.cell_store.proofs.Links.{Same, Cell, Held, cell_same, same_or_not, still_held, was_held, left}
 
 pub key_itself : (k : Key) → is_eq (key_cmp k k) ≡ true
 key_itself k = grind (arith, nat_tests)
@@ -47,7 +49,7 @@ found_from (n ∷ nodes) k p h =
           (elim (is_of k e.0) as (λ b. is_of k e.0 ≡ b → cond b (Some e.1) (listed nodes k) ≡ Some p → (i : ℕ) × (held_at (n ∷ nodes) i ≡ Some (k, p))) [
             | true ↦ λ is g.
                 let same : e.0 ≡ k = equal_keys e.0 k is in
-                let place : e.1 ≡ p = some_same e.1 p g in
+                let place : e.1 ≡ p = same_Some e.1 p g in
                 (zero, t ∙ ap (λ (j : Key). Some (j, e.1)) same ∙ ap (λ (q : Place). Some (k, q)) place)
             | false ↦ λ is g. let r = found_from nodes k p g in (suc r.0, r.1)
           ]) refl d
@@ -99,7 +101,7 @@ module _ (nodes new : List Node) (once : Once (held_at nodes)) (once' : Once (he
             listed_is new q None once' (λ r e. none_some r e)
             (λ j r at.
             let l = left (held_at nodes) (held_at new) i k p was gone others once j (q, r) at in
-            absurd (not_one i j l.0 (once i j q p r (was ∙ ap (λ (d : Key). Some (d, p)) same) l.1)))
+            absurd (eqb-false i j l.0 (once i j q p r (was ∙ ap (λ (d : Key). Some (d, p)) same) l.1)))
         | false ↦ λ t.
             listed_is new q (listed nodes q) once'
             (λ r e.

@@ -1,11 +1,11 @@
 -- What a cell more and a cell less keep of all lists.
-use Rattle.std.proofs.Common.{◌≡◌, ◌⊎◌, inl, inr, ⊎_elim, ℕ, ◌+◌, ◌<◌, ◌≤◌, Bool, true, false, cond, nat_eq, nat_lt, Option, Some, None, IfSome, IfNone, refl, sym, ap, subst, ◌∙◌, eq-eqb, eqb-true, arith}
+use Rattle.std.proofs.Common.{◌≡◌, ◌⊎◌, inl, inr, ⊎_elim, ℕ, ◌<◌, ◌≤◌, Bool, true, false, cond, nat_eq, Option, Some, None, IfSome, IfNone, refl, sym, ap, subst, ◌∙◌, eq-eqb, arith}
+use Rattle.std.proofs.lemmas.Bool.{eqb-false}
 use Rattle.cell_store.specs.declared.Key.{Key}
 use Rattle.cell_store.specs.declared.index.Place.{Place}
 use Rattle.cell_store.specs.declared.index.Gap.{Gap}
-use Rattle.cell_store.specs.inner.Lists.{IsReached, IsOn, IsLink, Any, Below, AreLists, IsBefore, IsAfter, IsBehind, IsGap, is_it}
-use Rattle.cell_store.proofs.Found.{some_same, none_some}
-use Rattle.cell_store.proofs.Links.{Same, Cell, Held, any_down, below_down, cell_same, key_is, same_or_not, three_ways, not_one, reached_at, on_at, not_free, still_held, was_held, link_stays, link_to_new, link_of_new, left, link_keeps, link_past}
+use Rattle.cell_store.specs.inner.Lists.{IsReached, IsOn, IsLink, Any, Below, AreLists, IsBefore, IsAfter, IsGap, is_it}
+use Rattle.cell_store.proofs.Links.{Same, Cell, Held, any_down, below_down, cell_same, key_is, same_or_not, three_ways, reached_at, on_at, not_free, was_held, link_stays, link_to_new, link_of_new, left, link_keeps, link_past}
 
 abbrev Links : Type 0
 Links = ℕ → Option ℕ
@@ -105,7 +105,7 @@ module _ (held new : Held) (link link' first first' : Links) (lists : AreLists h
       heads = λ s. ⊎_elim
           (λ (e : k.signal ≡ s). subst (λ (t : ℕ). IsLink new t Any (first' t)) e
           (subst (λ (o : Option ℕ). IsLink new k.signal Any o) (sym front) (link_to_new held new i k p free here others k.signal Any any_down gap.after front_link refl (omega arith) earlier)))
-          (λ (h : nat_eq k.signal s ≡ false). let not_so = not_one k.signal s h in subst (λ (o : Option ℕ). IsLink new s Any o) (sym (heads s not_so)) (other_head s not_so))
+          (λ (h : nat_eq k.signal s ≡ false). let not_so = eqb-false k.signal s h in subst (λ (o : Option ℕ). IsLink new s Any o) (sym (heads s not_so)) (other_head s not_so))
           (same_or_not k.signal s);
       links = λ j c q at. ⊎_elim
           (λ (e : (i ≡ j) × Same (c, q) (k, p)).
@@ -175,7 +175,7 @@ module _ (held new : Held) (link link' first first' : Links) (lists : AreLists h
             by_start j c q e differs of low (inl lower) = reaches (Below c.start) (link j) (subst (λ (s : ℕ). IsLink held s (Below c.start) (link j)) (sym of) (lists.links j c q e)) lower
             by_start j c q e differs of low (inr (inl same)) =
                 let key : bef.key ≡ c = key_is bef.key c (bef.of ∙ of) same in
-                absurd (not_one b j differs (lists.once b j c bef.place q (bef.at ∙ ap (λ (d : Key). Some (d, bef.place)) key) e))
+                absurd (eqb-false b j differs (lists.once b j c bef.place q (bef.at ∙ ap (λ (d : Key). Some (d, bef.place)) key) e))
             by_start j c q e differs of low (inr (inr higher)) =
                 let r : IsReached held gap.after c.start = before_link.last j c q e (sym of) higher in
                 absurd (omega (arith, r.late, earlier r.to r.key r.place r.is r.at, low))
@@ -215,7 +215,7 @@ module _ (held new : Held) (link link' first first' : Links) (lists : AreLists h
       heads = λ s. ⊎_elim
           (λ (e : k.signal ≡ s). subst (λ (t : ℕ). IsLink new t Any (first' t)) e
           (subst (λ (o : Option ℕ). IsLink new k.signal Any o) (sym head) (past k.signal Any any_down (first k.signal) first_is (lists.heads k.signal))))
-          (λ (h : nat_eq k.signal s ≡ false). let not_so = not_one k.signal s h in subst (λ (o : Option ℕ). IsLink new s Any o) (sym (heads s not_so)) (keeps s Any (first s) (lists.heads s) (λ to. not_so (head_of_it s to))))
+          (λ (h : nat_eq k.signal s ≡ false). let not_so = eqb-false k.signal s h in subst (λ (o : Option ℕ). IsLink new s Any o) (sym (heads s not_so)) (keeps s Any (first s) (lists.heads s) (λ to. not_so (head_of_it s to))))
           (same_or_not k.signal s);
       links = λ j c q at.
           let l = left held new i k p was gone rest lists.once j (c, q) at in
@@ -268,7 +268,7 @@ module _ (held new : Held) (link link' first first' : Links) (lists : AreLists h
                 by_start : k.signal ≡ c.signal → k.start < c.start → (prior.key.start < c.start) ⊎ ((prior.key.start ≡ c.start) ⊎ (c.start < prior.key.start)) → ⊥
                 by_start of low (inl lower) = no_skip (Below c.start) (link j) (subst (λ (s : ℕ). IsLink held s (Below c.start) (link j)) (sym of) (lists.links j c q e)) lower to
                 by_start of low (inr (inl same)) =
-                    not_one b j differs (lists.once b j c prior.place q (prior.at ∙ ap (λ (d : Key). Some (d, prior.place)) (key_is prior.key c (prior.of ∙ of) same)) e)
+                    eqb-false b j differs (lists.once b j c prior.place q (prior.at ∙ ap (λ (d : Key). Some (d, prior.place)) (key_is prior.key c (prior.of ∙ of) same)) e)
                 by_start of low (inr (inr higher)) =
                     let m : c.start ≤ k.start =
                     reached_at held k.signal (Below prior.key.start) (link b) (subst (λ (s : ℕ). IsLink held s (Below prior.key.start) (link b)) prior.of (lists.links b prior.key prior.place prior.at)) i k p prior.next was j c q e (sym of) higher in

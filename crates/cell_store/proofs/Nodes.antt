@@ -1,38 +1,24 @@
 -- What a write of a node changes, and how far a search in a list goes.
-use Rattle.std.proofs.Common.{◌≡◌, ◌⊎◌, inl, inr, ⊎_elim, ℕ, zero, suc, ◌+◌, ◌<◌, ◌≤◌, Bool, true, false, cond, nat_eq, List, [], ◌∷◌, ◌++◌, length, Option, Some, None, IsSome, IfSome, IfNone, unwrap_or, refl, sym, ap, subst, ◌∙◌, true≢false, eq-eqb, eqb-true, arith}
-use Rattle.std.proofs.lemmas.Bool.{ne_eqb}
+use Rattle.std.proofs.Common.{◌≡◌, ⊎_elim, ℕ, zero, suc, ◌<◌, ◌≤◌, Bool, true, false, cond, nat_eq, List, [], ◌∷◌, ◌++◌, length, Option, Some, None, IsSome, IfSome, unwrap_or, refl, sym, ap, subst, ◌∙◌, true≢false, eq-eqb, arith}
 use Rattle.std.proofs.lemmas.List.{length-append}
-use Rattle.std.proofs.lemmas.Option.{slice_get_within, slice_get_past}
+use Rattle.std.proofs.lemmas.Option.{slice_get_within, slice_get_past, same_Some}
 use Rattle.std.specs.List.{slice_get, slice_set}
+use Rattle.std.proofs.Math.Dec.{eqb-suc-suc, eqb-suc-zero, eqb-zero-suc}
 use Rattle.cell_store.specs.declared.Key.{Key}
 use Rattle.cell_store.specs.declared.heads.Head.{Head}
 use Rattle.cell_store.specs.declared.index.Place.{Place}
 use Rattle.cell_store.specs.declared.index.Node.{Node}
 use Rattle.cell_store.specs.declared.index.Gap.{Gap}
-use Rattle.cell_store.specs.inner.Lists.{IsIndex, Within, first_in, key_at, place_in, held_in, link_in, bound, held_at, link_at, IsOn, IsLink, Any, Below, IsSearchable, IsBefore, IsAfter, IsBehind, IsGap, IsHeld, IsFree, IsPutIn, IsTakenOut, AreSteady, is_it, way_from, start_after}
-use Rattle.cell_store.proofs.Found.{some_same, none_some}
-use Rattle.cell_store.proofs.Links.{Cell, cell_same, same_or_not, not_one}
+use Rattle.cell_store.specs.inner.Lists.{IsIndex, Within, first_in, held_in, link_in, bound, held_at, link_at, IsOn, IsLink, Any, Below, IsSearchable, IsAfter, IsBehind, IsGap, IsHeld, IsFree, IsPutIn, IsTakenOut, AreSteady, is_it, way_from, start_after}
+use Rattle.cell_store.proofs.Links.{Cell, same_or_not}
 use Rattle.cell_store.proofs.Indexed.{IsNode, node_of}
-
-zero_suc : (j : ℕ) → nat_eq zero (suc j) ≡ false
-zero_suc j = ne_eqb zero (suc j) (λ e. omega arith)
-
-suc_zero : (j : ℕ) → nat_eq (suc j) zero ≡ false
-suc_zero j = ne_eqb (suc j) zero (λ e. omega arith)
-
-suc_suc : (i j : ℕ) → nat_eq (suc i) (suc j) ≡ nat_eq i j
-suc_suc i j =
-    ⊎_elim
-    (λ (e : i ≡ j). eq-eqb (suc i) (suc j) (ap suc e) ∙ sym (eq-eqb i j e))
-    (λ (h : nat_eq i j ≡ false). ne_eqb (suc i) (suc j) (λ e. not_one i j h (omega (arith, e))) ∙ sym h)
-    (same_or_not i j)
 
 pub get_set : {X : Type 0} (xs : List X) (i : ℕ) (v : X) (j : ℕ) → i < length xs → slice_get (slice_set xs i v) j ≡ cond (nat_eq i j) (Some v) (slice_get xs j)
 get_set [] i v j h = absurd (omega arith)
 get_set (x ∷ xs) zero v zero h = refl
-get_set (x ∷ xs) zero v (suc j) h = sym (ap (λ (b : Bool). cond b (Some v) (slice_get xs j)) (zero_suc j))
-get_set (x ∷ xs) (suc i) v zero h = sym (ap (λ (b : Bool). cond b (Some v) (Some x)) (suc_zero i))
-get_set (x ∷ xs) (suc i) v (suc j) h = get_set xs i v j (omega (arith, h)) ∙ sym (ap (λ (b : Bool). cond b (Some v) (slice_get xs j)) (suc_suc i j))
+get_set (x ∷ xs) zero v (suc j) h = sym (ap (λ (b : Bool). cond b (Some v) (slice_get xs j)) (eqb-zero-suc j))
+get_set (x ∷ xs) (suc i) v zero h = sym (ap (λ (b : Bool). cond b (Some v) (Some x)) (eqb-suc-zero i))
+get_set (x ∷ xs) (suc i) v (suc j) h = get_set xs i v j (omega (arith, h)) ∙ sym (ap (λ (b : Bool). cond b (Some v) (slice_get xs j)) (eqb-suc-suc i j))
 
 bound_cond : {X Y : Type 0} (f : X → Option Y) (b : Bool) (x : X) (o : Option X) → bound f (cond b (Some x) o) ≡ cond b (f x) (bound f o)
 bound_cond f true x o = refl
@@ -117,9 +103,9 @@ module _ (nodes new : List Node) (i : ℕ) (before next : Option ℕ) (held : (j
 -- ---- a free node behind the others
 pub get_push : {X : Type 0} (xs : List X) (x : X) (j : ℕ) → slice_get (xs ++ x ∷ []) j ≡ cond (nat_eq (length xs) j) (Some x) (slice_get xs j)
 get_push [] x zero = refl
-get_push [] x (suc j) = sym (ap (λ (b : Bool). cond b (Some x) None) (zero_suc j))
-get_push (y ∷ xs) x zero = sym (ap (λ (b : Bool). cond b (Some x) (Some y)) (suc_zero (length xs)))
-get_push (y ∷ xs) x (suc j) = get_push xs x j ∙ sym (ap (λ (b : Bool). cond b (Some x) (slice_get xs j)) (suc_suc (length xs) j))
+get_push [] x (suc j) = sym (ap (λ (b : Bool). cond b (Some x) None) (eqb-zero-suc j))
+get_push (y ∷ xs) x zero = sym (ap (λ (b : Bool). cond b (Some x) (Some y)) (eqb-suc-zero (length xs)))
+get_push (y ∷ xs) x (suc j) = get_push xs x j ∙ sym (ap (λ (b : Bool). cond b (Some x) (slice_get xs j)) (eqb-suc-suc (length xs) j))
 
 past_none : {X Y : Type 0} (f : X → Option Y) (xs : List X) (j : ℕ) → length xs ≡ j → bound f (slice_get xs j) ≡ None
 past_none f xs j e = ap (bound f) (slice_get_past xs j (omega (arith, e)))
@@ -166,7 +152,7 @@ module _ (nodes : List Node) (first : Option ℕ) (signal start : ℕ) (s : IsSe
 
     module _ (n : Node) (at : slice_get nodes i ≡ Some n) where
       start_is : here.key.start ≡ n.start
-      start_is = ap (λ (k : Key). k.start) (sym its_node.key) ∙ ap (λ (m : Node). m.start) (some_same its_node.node n (sym its_node.at ∙ at))
+      start_is = ap (λ (k : Key). k.start) (sym its_node.key) ∙ ap (λ (m : Node). m.start) (same_Some its_node.node n (sym its_node.at ∙ at))
 
       pub search_ends : n.start ≤ start → IsGap (held_at nodes) (link_at nodes) first signal start gap
       search_ends early = record {

@@ -1,10 +1,13 @@
 -- The maps of an index: what heads that change, and places that come and go, keep.
 use Rattle.std.proofs.Common.{◌≡◌, ◌⊎◌, inl, inr, ⊎_elim, ℕ, ◌<◌, Bool, true, false, ◌&&◌, not, cond, nat_eq, List, [], length, Option, Some, None, IsSome, IfSome, IfNone, Result, IfOk, OnErr, option_map, refl, sym, ap, ap₂, subst, ◌∙◌, true≢false, eq-eqb, eqb-true, arith}
-use Rattle.std.proofs.lemmas.Option.{slice_get_within}
+use Rattle.std.proofs.lemmas.Option.{slice_get_within, same_Some}
 use Rattle.std.proofs.lemmas.Bool.Decides.{nat_tests}
-use Rattle.std.specs.BTreeMap.{get}
+use Rattle.std.specs.BTreeMap.{BTreeMap, get}
 use Rattle.std.specs.List.{slice_get}
-use Rattle.std.specs.Ordering.{is_eq, nat_cmp}
+use Rattle.std.specs.Ordering.{is_eq}
+use Rattle.std.proofs.lemmas.Bool.{eqb-false, cases_Bool}
+use Rattle.std.proofs.Math.Bool.{and-false}
+use Rattle.std.proofs.lemmas.Result.{IfOk-weaker}
 use Rattle.valid_intervals.specs.declared.Point.{Point}
 use Rattle.cell_store.specs.declared.Key.{Key}
 use Rattle.cell_store.specs.declared.heads.Head.{Head}
@@ -17,20 +20,17 @@ use Rattle.cell_store.specs.declared.maps.Maps.{Maps}
 use Rattle.cell_store.specs.inner.Heads.{is_own, has_map, no_head}
 use Rattle.cell_store.specs.inner.Index.{key_cmp}
 use Rattle.cell_store.specs.inner.Lists.{key_at, IsLastAt, IsNoneAt, first_in, listed, or_else, firsts, held_at, link_at, HeadSet, IsIndex, AreAllSteady}
-use Rattle.cell_store.specs.inner.Maps.{owner_in, owner_at, cells_at, common_at, mapped_by, mapped_in, AreSteadyMaps, SetsMapped, IsReleased, IsThere, IsWhole, IsUnmapped}
-use Rattle.cell_store.proofs.Found.{some_same, none_some}
+use Rattle.cell_store.specs.inner.SignalCells.{kept_at}
+use Rattle.cell_store.specs.inner.Maps.{owner_in, cells_in, owner_at, cells_at, IsAdded, common_at, mapped_by, mapped_in, AreSteadyMaps, SetsMapped, IsReleased, IsThere, IsWhole, IsUnmapped}
+use Rattle.cell_store.proofs.Found.{none_some}
 use Rattle.cell_store.proofs.Keys.{equal_keys}
-use Rattle.cell_store.proofs.Links.{same_or_not, not_one}
+use Rattle.cell_store.proofs.Links.{same_or_not}
 use Rattle.cell_store.proofs.Lists.{same_links}
 use Rattle.cell_store.proofs.Listed.{listed_is, listed_same, else_changed}
-use Rattle.cell_store.proofs.Results.{if_value, none_had, in_each}
-use Rattle.cell_store.proofs.Indexed.{has_list, IsMore, more_set, told_index, mapped_index, steady_index}
+use Rattle.cell_store.proofs.Results.{none_had, in_each}
+use Rattle.cell_store.proofs.Indexed.{has_list, more_set, told_index, mapped_index, steady_index}
 
 -- ---- what the place of a head says
-own_or_not : (b : Bool) → (b ≡ true) ⊎ (b ≡ false)
-own_or_not true = inl refl
-own_or_not false = inr refl
-
 pub not_own : (m : More) → m ≡ Nothing → is_own m ≡ false
 not_own m e = ap is_own e
 
@@ -147,17 +147,13 @@ both_false true true h c = absurd (h refl refl)
 both_false true false h c = refl
 both_false false b h c = refl
 
-neither : (a : Bool) → a && false ≡ false
-neither true = refl
-neither false = refl
-
 module _ (nodes : List Node) (heads : ℕ → Head) (maps new : Maps) (w : IsWhole nodes heads maps) (key : Key) (o : Option Place) (head : Head) (is : head ≡ heads key.signal) (sets : SetsMapped head maps new key o) where
   -- two signals have different maps
   two_maps : (q : Key) → nat_eq key.signal q.signal ≡ false → is_own (heads q.signal).more ≡ true → is_own head.more ≡ true → nat_eq head.first (heads q.signal).first ≡ true → ⊥
   two_maps q d own here same =
       let one : owner_at maps head.first ≡ Some key.signal = ap (λ (h : Head). owner_at maps h.first) is ∙ w.owned key.signal (sym (ap (λ (h : Head). is_own h.more) is) ∙ here) in
       let other : owner_at maps head.first ≡ Some q.signal = ap (owner_at maps) (eqb-true head.first (heads q.signal).first same) ∙ w.owned q.signal own in
-      not_one key.signal q.signal d (some_same key.signal q.signal (sym one ∙ other))
+      eqb-false key.signal q.signal d (same_Some key.signal q.signal (sym one ∙ other))
 
   in_own : (q : Key) → is_own (heads q.signal).more ≡ true → (is_own head.more && (nat_eq head.first (heads q.signal).first && nat_eq key.start q.start)) ≡ is_eq (key_cmp key q)
   in_own q own =
@@ -174,7 +170,7 @@ module _ (nodes : List Node) (heads : ℕ → Head) (maps new : Maps) (w : IsWho
   in_common q own =
       ⊎_elim
       (λ (e : key.signal ≡ q.signal). ap (λ (b : Bool). not b && is_eq (key_cmp key q)) (ap (λ (h : Head). is_own h.more) (is ∙ ap heads e) ∙ own))
-      (λ (d : nat_eq key.signal q.signal ≡ false). ap (λ (b : Bool). not (is_own head.more) && b) (unequal_when key q d) ∙ neither (not (is_own head.more)) ∙ sym (unequal_when key q d))
+      (λ (d : nat_eq key.signal q.signal ≡ false). ap (λ (b : Bool). not (is_own head.more) && b) (unequal_when key q d) ∙ and-false (not (is_own head.more)) ∙ sym (unequal_when key q d))
       (same_or_not key.signal q.signal)
 
   pub sets_mapped : (q : Key) → mapped_in heads new q ≡ cond (is_eq (key_cmp key q)) o (mapped_in heads maps q)
@@ -186,7 +182,7 @@ module _ (nodes : List Node) (heads : ℕ → Head) (maps new : Maps) (w : IsWho
       (λ (own : is_own (heads q.signal).more ≡ false).
       by_common (heads q.signal) new q own ∙ sets.common q
       ∙ ap₂ (λ (b : Bool) (p : Option Place). cond b o p) (in_common q own) (sym (by_common (heads q.signal) maps q own)))
-      (own_or_not (is_own (heads q.signal).more))
+      (cases_Bool (is_own (heads q.signal).more))
 
   pub sets_whole : listed nodes key ≡ None → (IsSome o → has_map head.more ≡ true) → IsWhole nodes heads new
   sets_whole unlisted has = record {
@@ -194,7 +190,7 @@ module _ (nodes : List Node) (heads : ℕ → Head) (maps new : Maps) (w : IsWho
         (λ some. sym (ap (λ (h : Head). has_map h.more) is) ∙ has some);
     owned = λ n own. sets.owners (heads n).first ∙ w.owned n own;
     unlisted = λ n own. w.unlisted n own;
-    told = λ k some. by k some (own_or_not (not (is_own head.more) && is_eq (key_cmp key k)));
+    told = λ k some. by k some (cases_Bool (not (is_own head.more) && is_eq (key_cmp key k)));
   }
     where
       here : (a b : Bool) → (not a && b) ≡ true → (a ≡ false) × (b ≡ true)
@@ -256,7 +252,7 @@ module _ (nodes : List Node) (heads heads' : ℕ → Head) (maps new : Maps) (w 
         (λ (d : nat_eq signal s ≡ false).
         let o' : is_own (heads s).more ≡ true = sym (ap (λ (h : Head). is_own h.more) (set_else heads heads' signal no_head set s d)) ∙ o in
         let other : nat_eq (heads signal).first (heads s).first ≡ false = ⊎_elim
-        (λ (f : (heads signal).first ≡ (heads s).first). absurd (not_one signal s d (some_same signal s (sym (w.owned signal own) ∙ ap (owner_at maps) f ∙ w.owned s o'))))
+        (λ (f : (heads signal).first ≡ (heads s).first). absurd (eqb-false signal s d (same_Some signal s (sym (w.owned signal own) ∙ ap (owner_at maps) f ∙ w.owned s o'))))
         (λ f. f)
         (same_or_not (heads signal).first (heads s).first) in
         ap (λ (h : Head). owner_at new h.first) (set_else heads heads' signal no_head set s d) ∙ r.owners (heads s).first ∙ ap (λ (b : Bool). cond b None (owner_at maps (heads s).first)) other
@@ -348,7 +344,7 @@ listed_not_own nodes heads maps w s some =
     ⊎_elim
     (λ (own : is_own (heads s).more ≡ true). let none : (heads s).many ≡ 0 = w.unlisted s own in absurd (omega (arith, none, some)))
     (λ e. e)
-    (own_or_not (is_own (heads s).more))
+    (cases_Bool (is_own (heads s).more))
 
 pub own_unlisted : (nodes : List Node) (heads : ℕ → Head) (maps : Maps) → IsWhole nodes heads maps → (key : Key) (head : Head) → head ≡ heads key.signal → is_own head.more ≡ true → listed nodes key ≡ None
 own_unlisted nodes heads maps w key head is own =
@@ -380,7 +376,7 @@ module _ (nodes : List Node) (heads : ℕ → Head) (maps new : Maps) (w : IsWho
 
   pub insert_had : IfOk r (λ had. had ≡ option_map (λ (p : Place). p.slot) (mapped_by head maps key)) → IfOk r (λ had. had ≡ option_map (λ (p : Place). p.slot) (or_else (listed nodes key) (mapped_in heads maps key)))
   insert_had h =
-      if_value r
+      IfOk-weaker r _ _
       (λ had e. e ∙ ap (λ (x : Head). option_map (λ (p : Place). p.slot) (mapped_by x maps key)) is ∙ ap (λ (o : Option Place). option_map (λ (p : Place). p.slot) (or_else o (mapped_in heads maps key))) (sym unlisted))
       h
 
@@ -419,3 +415,21 @@ empty_whole heads maps many own none = record {
   where
     first : (s : ℕ) → first_in (heads s) ≡ None
     first s = ap (λ (b : Bool). cond b None (Some (heads s).first)) (eq-eqb (heads s).many 0 (many s))
+
+-- ---- a signal gets a map that none had
+pub now_added : (maps new : Maps) (signal n : ℕ) (m : OwnMap) → m.owner ≡ Some signal → ((j : ℕ) → slice_get new.own.items j ≡ cond (nat_eq n j) (Some m) (slice_get maps.own.items j)) → owner_at maps n ≡ None → new.common ≡ maps.common
+    → IsAdded maps new signal m.cells n
+now_added maps new signal n m owner set free common = record {
+  free = free;
+  owners = λ j. ap owner_in (set j)
+      ∙ (elim (nat_eq n j) as (λ b. owner_in (cond b (Some m) (slice_get maps.own.items j)) ≡ cond b (Some signal) (owner_at maps j)) [
+        | true ↦ owner
+        | false ↦ refl
+      ]);
+  cells = λ j t. ap (λ (o : Option OwnMap). cells_in o t) (set j)
+      ∙ (elim (nat_eq n j) as (λ b. cells_in (cond b (Some m) (slice_get maps.own.items j)) t ≡ cond b (kept_at m.cells t) (cells_at maps j t)) [
+        | true ↦ refl
+        | false ↦ refl
+      ]);
+  common = λ q. ap (λ (c : BTreeMap Key Place). get key_cmp c q) common;
+}

@@ -1,14 +1,14 @@
 -- The table of heads: what a page more and a longer page keep, and what a write of a head changes.
-use Rattle.std.proofs.Common.{◌≡◌, ◌⊎◌, inl, inr, ⊎_elim, ℕ, zero, suc, ◌+◌, ◌*◌, ◌/◌, ◌%◌, ◌<◌, ◌≤◌, Bool, true, false, cond, nat_eq, nat_lt, List, [], ◌∷◌, ◌++◌, length, Option, Some, None, vec_len, refl, sym, ap, ap₂, subst, ◌∙◌, true≢false, eq-eqb, eqb-true, arith}
-use Rattle.std.proofs.lemmas.Option.{slice_get_within, slice_get_past}
+use Rattle.std.proofs.Common.{◌≡◌, inl, inr, ⊎_elim, ℕ, zero, suc, ◌+◌, ◌*◌, ◌/◌, ◌%◌, ◌<◌, ◌≤◌, Bool, true, false, cond, nat_eq, nat_lt, List, [], ◌∷◌, ◌++◌, length, Option, Some, None, vec_len, refl, sym, ap, ap₂, ◌∙◌, true≢false, eq-eqb, eqb-true, arith}
+use Rattle.std.proofs.lemmas.Option.{slice_get_within, same_Some}
 use Rattle.std.proofs.Math.Nat.{div-add-mod, mod-lt}
 use Rattle.std.specs.Global.{Vec}
 use Rattle.std.specs.List.{slice_get, slice_set}
+use Rattle.std.proofs.lemmas.Bool.{eqb-false}
 use Rattle.cell_store.specs.declared.heads.Head.{Head}
-use Rattle.cell_store.specs.declared.heads.Heads.{Heads}
-use Rattle.cell_store.specs.inner.Heads.{local_of, no_head, elsewhere, or_none, head_on, on_page, head_at, head_for, HasHead, HasPlace}
-use Rattle.cell_store.proofs.Found.{some_same, none_some}
-use Rattle.cell_store.proofs.Links.{same_or_not, not_one}
+use Rattle.cell_store.specs.inner.Heads.{local_of, no_head, elsewhere, or_none, head_on, on_page, head_at, HasHead, HasPlace}
+use Rattle.cell_store.proofs.Found.{none_some}
+use Rattle.cell_store.proofs.Links.{same_or_not}
 use Rattle.cell_store.proofs.Nodes.{get_set}
 
 pub push_same : (page : List Head) (h : Head) → h ≡ no_head → (i : ℕ) → head_on (page ++ h ∷ []) i ≡ head_on page i
@@ -83,7 +83,7 @@ is_local stride residue s l h =
           (elim (nat_eq (s % stride) residue) as (λ b. nat_eq (s % stride) residue ≡ b → cond b (cond (nat_lt (s / stride / 64) 65536) (Some (s / stride)) None) None ≡ Some l → IsLocal stride residue s l) [
             | true ↦ λ t e.
                 (elim (nat_lt (s / stride / 64) 65536) as (λ c. cond c (Some (s / stride)) None ≡ Some l → IsLocal stride residue s l) [
-                  | true ↦ λ f. record { quotient = some_same (s / stride) l f; rest = eqb-true (s % stride) residue t }
+                  | true ↦ λ f. record { quotient = same_Some (s / stride) l f; rest = eqb-true (s % stride) residue t }
                   | false ↦ λ f. none_some l f
                 ]) e
             | false ↦ λ t e. none_some l e
@@ -114,7 +114,7 @@ written_head pages new stride residue signal local head is written s =
           d
           ∙ sym
           (⊎_elim
-          (λ (f : signal ≡ s). absurd (not_one local k d (some_same local k (sym is ∙ ap (local_of stride residue) f ∙ e))))
+          (λ (f : signal ≡ s). absurd (eqb-false local k d (same_Some local k (sym is ∙ ap (local_of stride residue) f ∙ e))))
           (λ (f : nat_eq signal s ≡ false). f)
           (same_or_not signal s)))
           (same_or_not local k))

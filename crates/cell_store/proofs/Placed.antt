@@ -2,6 +2,7 @@
 use Rattle.std.proofs.Common.{◌≡◌, ℕ, IsSome, Bool, true, false, cond, List, [], ◌∷◌, ◌++◌, All, Option, Some, None, option_map, find, refl, sym, ap, ap₂, subst, ◌∙◌}
 use Rattle.std.proofs.lemmas.List.Elements.{All-head, All-tail, All-cons, All-nil}
 use Rattle.std.specs.Ordering.{is_eq}
+use Rattle.std.proofs.lemmas.Option.{same_Some}
 use Rattle.valid_intervals.specs.Spans.{IsSpan}
 use Rattle.valid_intervals.specs.declared.Cell.{Cell}
 use Rattle.valid_intervals.specs.declared.SignalCell.{SignalCell}
@@ -10,7 +11,7 @@ use Rattle.cell_store.specs.declared.index.Place.{Place}
 use Rattle.cell_store.specs.Recency.{key_of, IsApart, AreApart}
 use Rattle.cell_store.specs.inner.Index.{key_cmp, has_key, place_at, slot_and_cell, end_in, cells_of, IsStoreIndex, IsPlaced}
 use Rattle.cell_store.proofs.Keys.{keys_differ, key_eq-is, has_key-itself}
-use Rattle.cell_store.proofs.Found.{some_same, none_some, found_all}
+use Rattle.cell_store.proofs.Found.{none_some, found_all}
 use Rattle.cell_store.proofs.StoreIndex.{same_index, added, dropped, All-front, All-back}
 use Rattle.cell_store.proofs.Entries.{CacheEntry, find-cells_of, cells_of-append}
 
@@ -85,7 +86,7 @@ located place_of es f x placed h =
     (elim (find (λ (e : CacheEntry). f e.1) es) as (λ o. find (λ (e : CacheEntry). f e.1) es ≡ o → option_map (λ (e : CacheEntry). e.1) o ≡ Some x → IsLocated place_of es f x) [
       | None ↦ λ t d. none_some x d
       | Some e ↦ λ t d.
-          let is : e ≡ (e.0, x) = ap (λ (y : SignalCell). (e.0, y)) (some_same e.1 x d) in
+          let is : e ≡ (e.0, x) = ap (λ (y : SignalCell). (e.0, y)) (same_Some e.1 x d) in
           record {
             slot = e.0;
             found = t ∙ ap (λ (c : CacheEntry). Some c) is;
@@ -95,7 +96,7 @@ located place_of es f x placed h =
 
 -- the slot that the index has is that of the cell
 pub same_slot : (place_of : Key → Option Place) (slot : ℕ) (x : SignalCell) (p : Place) → IsAt place_of (slot, x) → place_of (key_of x) ≡ Some p → slot ≡ p.slot
-same_slot place_of slot x p at is = ap (λ (q : Place). q.slot) (some_same (place_at (slot, x)) p (sym at ∙ is))
+same_slot place_of slot x p at is = ap (λ (q : Place). q.slot) (same_Some (place_at (slot, x)) p (sym at ∙ is))
 
 -- where there is no place, there is no cell
 pub no_cell : (place_of : Key → Option Place) (es : List CacheEntry) (k : Key) → IsPlaced place_of es → place_of k ≡ None → find (has_key k) (cells_of es) ≡ None
@@ -119,9 +120,9 @@ slot_found place_of es g k p placed h at =
     (elim (find (λ (e : CacheEntry). g e.1) es) as (λ o. find (λ (e : CacheEntry). g e.1) es ≡ o → option_map key_of (option_map (λ (e : CacheEntry). e.1) o) ≡ Some k → IsSlotOf es g k p) [
       | None ↦ λ t d. none_some k d
       | Some e ↦ λ t d.
-          let key : key_of e.1 ≡ k = some_same (key_of e.1) k d in
+          let key : key_of e.1 ≡ k = same_Some (key_of e.1) k d in
           let there : IsAt place_of e = found_all (IsAt place_of) (λ (c : CacheEntry). g c.1) es e placed.placed t in
-          let is : place_at e ≡ p = some_same (place_at e) p (sym there ∙ ap place_of key ∙ at) in
+          let is : place_at e ≡ p = same_Some (place_at e) p (sym there ∙ ap place_of key ∙ at) in
           let cell : e.1.cell ≡ cell_in k p = ap₂ cell_in key is in
           let span : IsSpan e.1.cell.span = found_all (λ (c : CacheEntry). IsSpan c.1.cell.span) (λ (c : CacheEntry). g c.1) es e (spans es placed.indexed.spans) t in
           record {
@@ -153,7 +154,7 @@ cell_found es g slot cell h =
     (elim (find (λ (e : CacheEntry). g e.1) es) as (λ o. find (λ (e : CacheEntry). g e.1) es ≡ o → Some (slot, cell) ≡ option_map slot_and_cell o → IsFoundIn es g slot cell) [
       | None ↦ λ t d. none_some (slot, cell) (sym d)
       | Some e ↦ λ t d.
-          let at : (slot, cell) ≡ (e.0, e.1.cell) = some_same (slot, cell) (e.0, e.1.cell) d in
+          let at : (slot, cell) ≡ (e.0, e.1.cell) = same_Some (slot, cell) (e.0, e.1.cell) d in
           record {
             x = e.1;
             entry = t ∙ ap (λ (n : ℕ). Some (n, e.1)) (sym (ap (λ (c : ℕ × Cell). c.0) at));

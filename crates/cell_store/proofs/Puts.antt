@@ -5,6 +5,7 @@ use Rattle.std.proofs.lemmas.List.Elements.{All-take}
 use Rattle.std.specs.List.{slice_get}
 use Rattle.std.specs.Map.{lookup_entry}
 use Rattle.std.specs.Ordering.{is_eq}
+use Rattle.std.proofs.lemmas.Option.{same_Some}
 use Rattle.lru.specs.LruCache.{LruCache, lru_cache, promoted, put_entries, last_entry}
 use Rattle.valid_intervals.specs.Spans.{IsSpan}
 use Rattle.valid_intervals.specs.declared.SignalCell.{SignalCell}
@@ -13,7 +14,7 @@ use Rattle.cell_store.specs.declared.Key.{Key}
 use Rattle.cell_store.specs.declared.index.Place.{Place}
 use Rattle.cell_store.specs.Recency.{Contents, contents, with_cells, key_of, last_key, pushes_out, after_put, IsApart, FitsStore}
 use Rattle.cell_store.specs.inner.Index.{key_cmp, has_key, place_at, cells_of, IsSoundStore}
-use Rattle.cell_store.proofs.Found.{some_same, none_some}
+use Rattle.cell_store.proofs.Found.{none_some}
 use Rattle.cell_store.proofs.Cached.{all_kept, all_differ, found_if_stored, not_stored, all_apart}
 use Rattle.cell_store.proofs.Entries.{CacheEntry, past_end, length-cells_of, absent, fresh, new_slot, still_free}
 use Rattle.cell_store.proofs.Placed.{IsLocated, located, same_slot, no_cell}
@@ -117,7 +118,7 @@ full_last entries capacity slot k h =
           (elim (last_entry entries) as (λ o. last_entry entries ≡ o → Some (slot, k) ≡ option_map slot_and_key o → IsFullLast entries capacity slot k) [
             | None ↦ λ at i. none_some (slot, k) (sym i)
             | Some e ↦ λ at i.
-                let is : slot_and_key e ≡ (slot, k) = some_same (slot_and_key e) (slot, k) (sym i) in
+                let is : slot_and_key e ≡ (slot, k) = same_Some (slot_and_key e) (slot, k) (sym i) in
                 record {
                   y = e.1;
                   entry = at ∙ ap (λ (n : ℕ). Some (n, e.1)) (ap (λ (p : ℕ × Key). p.0) is);
@@ -175,7 +176,7 @@ module _ (f : Key → Option Place) (cache : LruCache ℕ SignalCell) (free : Li
       (elim (f k) as (λ o. f k ≡ o → Some slot ≡ option_map (λ (p : Place). p.slot) o → IsStored f cache.entries free cache.cap slot x) [
         | None ↦ λ e d. none_some slot (sym d)
         | Some p ↦ λ e d.
-            subst (λ (n : ℕ). IsStored f cache.entries free cache.cap n x) (sym (some_same slot p.slot d))
+            subst (λ (n : ℕ). IsStored f cache.entries free cache.cap n x) (sym (same_Some slot p.slot d))
             (stored_at_place f cache.entries free cache.cap x sound span fits_inside p (ap f (sym key) ∙ e))
       ]) refl at
 

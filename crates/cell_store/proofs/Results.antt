@@ -1,25 +1,13 @@
 -- Facts that hold whatever a call returns.
-use Rattle.std.proofs.Common.{Option, Some, None, IfNone, IfSome, Result, Ok, Err, IfOk, OnErr, OnOk}
+use Rattle.std.proofs.Common.{Option, Some, None, IfNone, IfSome, Result, Ok, Err, IfOk, OnErr}
 
 pub on_err : {X E P : Type 0} (r : Result X E) → P → OnErr r P
 on_err (Ok x) p = tt
 on_err (Err e) p = p
 
-pub on_ok : {X E P Q : Type 0} (r : Result X E) → (P → Q) → OnOk r P → OnOk r Q
-on_ok (Ok x) f p = f p
-on_ok (Err e) f p = tt
-
 pub if_none : {X P : Type 0} (o : Option X) → P → IfNone o P
 if_none None p = p
 if_none (Some x) p = tt
-
-pub on_error : {X E P Q : Type 0} (r : Result X E) → (P → Q) → OnErr r P → OnErr r Q
-on_error (Ok x) f p = tt
-on_error (Err e) f p = f p
-
-pub if_value : {X E : Type 0} {P Q : X → Type 0} (r : Result X E) → ((x : X) → P x → Q x) → IfOk r P → IfOk r Q
-if_value (Ok x) f p = f x p
-if_value (Err e) f p = tt
 
 pub none_had : {X E P Q : Type 0} (r : Result (Option X) E) → (P → Q) → IfOk r (λ had. IfNone had P) → IfOk r (λ had. IfNone had Q)
 none_had (Ok None) f p = f p

@@ -4,6 +4,7 @@ use Rattle.std.proofs.lemmas.List.Elements.{All-head, All-tail, All-cons, All-ni
 use Rattle.std.proofs.lemmas.List.Folds.{find-append}
 use Rattle.std.specs.Option.{option_or}
 use Rattle.std.specs.Ordering.{is_eq}
+use Rattle.std.proofs.lemmas.Option.{same_Some}
 use Rattle.valid_intervals.specs.Spans.{IsSpan}
 use Rattle.valid_intervals.specs.declared.SignalCell.{SignalCell}
 use Rattle.valid_intervals.specs.Cells.{same_stored, to_front}
@@ -12,7 +13,7 @@ use Rattle.cell_store.specs.Recency.{key_of, IsApart, AreApart}
 use Rattle.cell_store.specs.inner.Index.{key_cmp, has_key, IsStoreIndex}
 use Rattle.cell_store.proofs.Same.{same_stored-true, same_stored-itself}
 use Rattle.cell_store.proofs.Keys.{first_point, covers_first, shares_first, has_key-true, key_eq-is, equal_keys}
-use Rattle.cell_store.proofs.Found.{some_same, none_some, found_true, found_all, found_at_key}
+use Rattle.cell_store.proofs.Found.{none_some, found_true, found_all, found_at_key}
 
 abbrev stop_of : SignalCell → ℕ
 stop_of x = x.cell.span.stop
@@ -38,7 +39,7 @@ apart_from_others f x (y ∷ cells) apart h =
     let others : List SignalCell = filter (λ z. not (same_stored x z)) cells in
     (elim (f y) as (λ b. cond b (Some y) (find f cells) ≡ Some x → All (IsApart x) (cond (not (same_stored x y)) (y ∷ others) others)) [
       | true ↦ λ e.
-          let is : y ≡ x = some_same y x e in
+          let is : y ≡ x = same_Some y x e in
           let itself : same_stored x y ≡ true = subst (λ (z : SignalCell). same_stored z y ≡ true) is (same_stored-itself y) in
           subst (λ b. All (IsApart x) (cond (not b) (y ∷ others) others)) (sym itself) (All-filter (λ z. not (same_stored x z)) (IsApart x) cells (subst (λ (z : SignalCell). All (IsApart z) cells) is apart.0))
       | false ↦ λ e.
@@ -104,7 +105,7 @@ last_is_apart : (f : SignalCell → Bool) (cells : List SignalCell) (x y : Signa
 last_is_apart f [] x y apart h = none_some x h
 last_is_apart f (z ∷ cells) x y apart h =
     (elim (f z) as (λ b. cond b (Some z) (find f cells) ≡ Some x → IsApart x y) [
-      | true ↦ λ e. subst (λ (w : SignalCell). IsApart w y) (some_same z x e) (All-back (IsApart z) cells y apart.0)
+      | true ↦ λ e. subst (λ (w : SignalCell). IsApart w y) (same_Some z x e) (All-back (IsApart z) cells y apart.0)
       | false ↦ λ e. last_is_apart f cells x y apart.1 e
     ]) h
 

@@ -1,7 +1,7 @@
 -- How a store is trimmed, one cell after another.
 use Rattle.std.proofs.Common.{◌≡◌, ℕ, zero, suc, ◌+◌, ◌-◌, ◌<◌, ◌≤◌, min, List, [], ◌∷◌, ◌++◌, length, get_or, map, reverse, take, drop, Option, Some, None, cond, refl, sym, ap, ap₂, subst, ◌∙◌, ⊎_elim, ◌⊎◌, arith}
-use Rattle.std.proofs.lemmas.List.{length-take, length-drop, length-reverse, take_all, take-take, reverse-append, take-map, drop-map, get_or-reverse, get_or-drop, get_or-take}
-use Rattle.std.proofs.lemmas.Option.{slice_get-get_or}
+use Rattle.std.proofs.lemmas.List.{drop_all, length-take, length-drop, length-reverse, take_all, take-take, reverse-append, take-map, drop-map, get_or-reverse, get_or-drop, get_or-take}
+use Rattle.std.proofs.lemmas.Option.{slice_get-get_or, same_Some}
 use Rattle.std.specs.List.{slice_get}
 use Rattle.std.specs.Ordering.{is_eq}
 use Rattle.lru.specs.LruCache.{LruCache, lru_cache, last_entry}
@@ -10,7 +10,7 @@ use Rattle.cell_store.specs.declared.Key.{Key}
 use Rattle.cell_store.specs.Recency.{Contents, contents, with_cells, key_of}
 use Rattle.cell_store.specs.declared.index.Place.{Place}
 use Rattle.cell_store.specs.inner.Index.{key_cmp, cells_of, IsSoundStore}
-use Rattle.cell_store.proofs.Found.{some_same, none_some}
+use Rattle.cell_store.proofs.Found.{none_some}
 use Rattle.cell_store.proofs.Entries.{CacheEntry}
 use Rattle.cell_store.proofs.Calls.{popped}
 use Rattle.cell_store.proofs.Puts.{went_at}
@@ -26,15 +26,9 @@ pub record IsTrimmed (place_of : Key → Option Place) (cache was : LruCache ℕ
   pub enough : min n (length was.entries) ≤ length cache.entries
   pub keys : taken ≡ reverse (keys_in (drop (length cache.entries) was.entries))
 
-drop_all : {X : Type 0} (xs : List X) (n : ℕ) → length xs ≤ n → drop n xs ≡ []
-drop_all [] zero h = refl
-drop_all [] (suc n) h = refl
-drop_all (x ∷ xs) zero h = absurd (omega arith)
-drop_all (x ∷ xs) (suc n) h = drop_all xs n (omega arith)
-
 drop_at : {X : Type 0} (xs : List X) (n : ℕ) (x : X) → slice_get xs n ≡ Some x → drop n xs ≡ x ∷ drop (suc n) xs
 drop_at [] n x h = none_some x h
-drop_at {X = X} (y ∷ ys) zero x h = ap (λ (z : X). z ∷ ys) (some_same y x h)
+drop_at {X = X} (y ∷ ys) zero x h = ap (λ (z : X). z ∷ ys) (same_Some y x h)
 drop_at (y ∷ ys) (suc n) x h = drop_at ys n x h
 
 slice_get_take : {X : Type 0} (xs : List X) (m n : ℕ) (x : X) → slice_get (take m xs) n ≡ Some x → slice_get xs n ≡ Some x
@@ -68,7 +62,7 @@ begins place_of cache free n sound = record {
   capacity = refl;
   entries_kept = sym (take_all (length cache.entries) cache.entries (omega arith));
   enough = omega arith;
-  keys = sym (ap (λ (l : List CacheEntry). reverse (keys_in l)) (drop_all cache.entries (length cache.entries) (omega arith)));
+  keys = sym (ap (λ (l : List CacheEntry). reverse (keys_in l)) (drop_all (length cache.entries) cache.entries (omega arith)));
 }
 
 pub goes_on : (f g : Key → Option Place) (cache next was : LruCache ℕ SignalCell) (free : List ℕ) (n : ℕ) (taken : List Key) (slot : ℕ) (y : SignalCell) (k : Key) → IsTrimmed f cache was free n taken → n < length cache.entries
@@ -94,7 +88,7 @@ taken_off : (n k : ℕ) (os : List CacheEntry) → k ≤ n → k ≤ length os �
 taken_off n k os low short enough =
     ⊎_elim
     (λ (is : k ≡ n). (ap (λ (m : ℕ). take m os) is, ap (λ (m : ℕ). drop m os) is))
-    (λ (all : length os ≤ k). (take_all k os all ∙ sym (take_all n os (omega arith)), drop_all os k all ∙ sym (drop_all os n (omega arith))))
+    (λ (all : length os ≤ k). (take_all k os all ∙ sym (take_all n os (omega arith)), drop_all k os all ∙ sym (drop_all n os (omega arith))))
     (let choice : (k ≡ n) ⊎ (length os ≤ k) = grind arith in choice)
 
 pub shows : (place_of : Key → Option Place) (cache was : LruCache ℕ SignalCell) (free : List ℕ) (n : ℕ) (taken : List Key) (s : Contents) → IsTrimmed place_of cache was free n taken → length cache.entries ≤ n
@@ -124,7 +118,7 @@ cut_none cache n = record {
   capacity = refl;
   entries_kept = sym (take_all (length cache.entries) cache.entries (omega arith));
   enough = omega arith;
-  gone = sym (ap (λ (l : List CacheEntry). reverse l) (drop_all cache.entries (length cache.entries) (omega arith)));
+  gone = sym (ap (λ (l : List CacheEntry). reverse l) (drop_all (length cache.entries) cache.entries (omega arith)));
 }
 
 pub cut_more : (cache next was : LruCache ℕ SignalCell) (n : ℕ) (taken : List CacheEntry) (e : CacheEntry) → IsCut cache was n taken → n < length cache.entries → Some e ≡ last_entry cache.entries

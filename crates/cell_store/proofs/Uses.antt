@@ -6,9 +6,10 @@ use Rattle.std.proofs.lemmas.List.Elements.{All-head, All-tail, All-set, All-get
 use Rattle.std.specs.List.{list_any, copy_within}
 use Rattle.std.specs.Map.{lookup_entry, remove_entry}
 use Rattle.std.specs.Option.{option_map_or}
+use Rattle.std.proofs.lemmas.Option.{same_Some}
 use Rattle.lru.specs.LruCache.{LruCache, lru_cache, put_entries}
 use Rattle.cell_store.specs.inner.Notes.{Slots, with_note, after_notes}
-use Rattle.cell_store.proofs.Found.{some_same, none_some}
+use Rattle.cell_store.proofs.Found.{none_some}
 
 -- ---- a slot is taken out of the order
 abbrev pub without : ℕ → Slots → Slots
@@ -93,7 +94,7 @@ pub slot_of : {V : Type 0} (s : ℕ) (es : List (ℕ × V)) (e : ℕ × V) → l
 slot_of s [] e h = none_some e h
 slot_of {V = V} s (d ∷ es) e h =
     (elim (nat_eq s d.0) as (λ b. nat_eq s d.0 ≡ b → cond b (Some d) (lookup_entry (nat_eq s) es) ≡ Some e → e.0 ≡ s) [
-      | true ↦ λ at is. ap (λ (x : ℕ × V). x.0) (sym (some_same d e is)) ∙ sym (eqb-true s d.0 at)
+      | true ↦ λ at is. ap (λ (x : ℕ × V). x.0) (sym (same_Some d e is)) ∙ sym (eqb-true s d.0 at)
       | false ↦ λ at is. slot_of s es e is
     ]) refl h
 

@@ -1,26 +1,25 @@
 //! The index of a store: the place of each cell by its key.
 //!
 //! The cells of a signal are a list, the latest first, behind its [`Head`]. The nodes of all lists are in one array. A signal with more
-//! cells than [`MOST_LISTED`] gets an ordered map of its own, and its list goes into it. It has the map until this is empty. Where no map
-//! can be had, further cells go into the common map, and the list stays beside. Signals with no place among the heads have all their cells
-//! in the common map.
+//! cells than [`MOST_LISTED`] gets a map of its own, its [`SignalCells`], and its list goes into it. It has the map until this is empty.
+//! Where no map can be had, further cells go into the common map, and the list stays beside. Signals with no place among the heads have all
+//! their cells in the common map.
 
 ghost use Rattle.std.specs.Prelude.{◌≡◌, true, if◌then◌else◌, ◌+◌, ◌<◌, ◌≤◌, ⊤, ℕ, None, Some, IfNone, IfOk, IfSome, OnErr, OnOk, false, length, nat_eq, option_map, slice_get, unwrap_or};
-ghost use Rattle.std.specs.BTreeMap.{get};
-ghost use Rattle.std.specs.Ordering.{nat_cmp};
 ghost use Rattle.cell_store.specs.declared.Key.{Key};
 ghost use Rattle.cell_store.specs.declared.heads.More.TheVariants.{Nothing, Own};
 ghost use Rattle.cell_store.specs.inner.Heads.{has_map, head_for};
 ghost use Rattle.cell_store.specs.inner.Maps.{IsThere, IsUnmapped, IsWhole, mapped_in, place_of};
+ghost use Rattle.cell_store.specs.inner.SignalCells.{kept_at};
 ghost use Rattle.cell_store.specs.inner.Lists.{AreAllSteady, AreLists, AreSteady, IsEmptied, IsFree, IsGap, IsHeld, IsLastAt, IsListedOr, IsNoneAt, IsPutIn, IsSearchable, IsTakenOut, Same, Sets, Within, bound, first_in, firsts, held_at, held_in, key_at, link_at, link_in, listed, later_of, longer_first, or_else, place_in, place_starting, shorter_first, start_and_place, starts_at};
 
 use crate::Key;
 use crate::heads::{Head, Heads, More, no_head};
 use crate::maps::Maps;
+use crate::signal_cells::SignalCells;
 use gate_values::Value;
 use owned_text::OutOfMemory;
 use std::alloc::Global;
-use std::collections::BTreeMap;
 use std::marker::Model;
 use valid_intervals::Point;
 
@@ -336,19 +335,15 @@ fn move_list(
 }
 
 // The places of a signal's list by their starts.
-fn listed_cells(
-    heads: &Heads,
-    nodes: &Vec<Node>,
-    signal: u32,
-) -> Result<BTreeMap<u32, Place>, OutOfMemory>
+fn listed_cells(heads: &Heads, nodes: &Vec<Node>, signal: u32) -> Result<SignalCells, OutOfMemory>
     requires { AreLists (held_at nodes.now.items) (link_at nodes.now.items) (firsts (head_for heads.now)) }
-    ensures { IfOk result (λ cells. (t : ℕ) → get nat_cmp cells t ≡ listed nodes.now.items (key_at signal t)) }
+    ensures { IfOk result (λ cells. (t : ℕ) → kept_at cells t ≡ listed nodes.now.items (key_at signal t)) }
 {
-    let mut cells = BTreeMap::new(*nodes.allocator());
+    let mut cells = SignalCells::new(*nodes.allocator());
     let mut at = first_of(heads.at(signal));
     while let Some(i) = at {
         let node = nodes[i as usize];
-        cells.insert(node.start, place_in(&node))?;
+        cells.insert_if_absent(node.start, place_in(&node))?;
         at = link_of(i, &node);
     }
     Ok(cells)

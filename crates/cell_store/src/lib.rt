@@ -11,11 +11,13 @@
 //! it. The cell in front is tried before the index.
 //!
 //! In the index the cells of a signal are a list, the latest first, behind a head in a table by the signal's number. The nodes of all
-//! lists are in one array. A list has at most 16 nodes. With one cell more, its signal gets an ordered map of its own, into which the list
-//! goes, and from then on the signal is searched in this map alone. It gives the map up when the last cell has left it. There are at most
-//! as many such maps as lists of so many cells have room. A signal that can have none keeps its list, and puts further cells into one common
-//! map. Signals that have no head, which are those of another residue than the store was made for, and very great numbers, are in the common
-//! map from the start. The table has pages of 64 heads, made when they are needed.
+//! lists are in one array. A list has at most 16 nodes. With one cell more, its signal gets a map of its own, into which the list goes, and
+//! from then on the signal is searched in this map alone. It gives the map up when the last cell has left it. Up to 512 cells of such a map
+//! stand in one array in the order of time: a search halves it, unless the last cell is the one, and a new cell goes to its end or between
+//! two others. More are an ordered map. There are at most as many maps as lists of so many cells have room. A signal that can have none
+//! keeps its list, and puts further cells into one common ordered map. Signals that have no head, which are those of another residue than
+//! the store was made for, and very great numbers, are in the common map from the start. The table has pages of 64 heads, made when they
+//! are needed.
 //!
 //! The kit's `lru` cache, which has the slots, tells which one was used longest ago. It is filled only when it is asked: each use is
 //! noted by its slot, and the notes are put into the cache, in their order, when a full store takes a new cell, and at a trim. There is
@@ -23,12 +25,12 @@
 //! that comes keeps no order. A new cell takes a free slot, or the next number, or in a full store the slot of the cell that it evicts.
 //! A `put` or `trim` that fails for lack of memory leaves the store as it was. A `find` takes no memory.
 //!
-//! With n cells, `find` and `put` take O(log n) steps, whatever the order of the times asked, and constant time for each note that is
-//! put into the cache or thinned out now: those of at most some two n calls. `len`, `capacity`, and a `find` of the most recently used
-//! cell take constant time. `trim` takes O(log n) steps for each cell that it removes. The store takes about 20 bytes a cell for the
-//! index (30 where the cells of a signal come in the order of their times and fill its map) and 21 for the cells by slots and their notes, up
-//! to twice that as these arrays grow, 4 for each signal of a page, 24 for each 64 signals up to the last that has a cell, and 50 a cell once
-//! there is an order.
+//! With n cells, `find` and `put` take O(log n) steps, whatever the order of the times asked, but that a `put` or an eviction may move up to
+//! 6 KB of an array, and the `put` of a 513th cell all of it into the ordered map; and constant time for each note that is put into the
+//! cache or thinned out now: those of at most some two n calls. `len`, `capacity`, and a `find` of the most recently used cell take constant
+//! time. `trim` takes as much as an eviction for each cell that it removes. The store takes about 20 bytes a cell for the index (12 to 30
+//! where the cells of a signal fill its map) and 21 for the cells by slots and their notes, up to twice that as these arrays grow, 4 for
+//! each signal of a page, 24 for each 64 signals up to the last that has a cell, and 50 a cell once there is an order.
 //!
 //! ```text
 //! let mut store = CellStore::new(alloc, 3, 1, 0)?;
@@ -43,6 +45,7 @@ mod index;
 mod maps;
 mod notes;
 mod recent;
+mod signal_cells;
 mod slots;
 mod store;
 

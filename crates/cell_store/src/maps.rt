@@ -1,17 +1,18 @@
-//! The ordered maps of an index: one for each signal that outgrew its list, and one in common for the signals that can have none.
+//! The maps of an index: one for each signal that outgrew its list, and one in common for the signals that can have none.
 
-ghost use Rattle.std.specs.Prelude.{◌≡◌, ◌<◌, true, false, ℕ, IfOk, IfSome, IfNone, OnErr, None, Some, if◌then◌else◌, length, nat_eq, option_map, slice_get};
+ghost use Rattle.std.specs.Prelude.{◌≡◌, ◌<◌, true, false, ℕ, List, IfOk, IfSome, IfNone, OnErr, None, Some, length, option_map, slice_get};
 ghost use Rattle.std.specs.BTreeMap.{get, IsUnchanged, Updates};
-ghost use Rattle.std.specs.Ordering.{nat_cmp};
 ghost use Rattle.cell_store.specs.declared.Key.{Key};
 ghost use Rattle.cell_store.specs.inner.Heads.{has_map, is_own};
 ghost use Rattle.cell_store.specs.inner.Index.{key_cmp};
 ghost use Rattle.cell_store.specs.inner.Lists.{IsLastAt, IsNoneAt};
+ghost use Rattle.cell_store.specs.inner.SignalCells.{kept_at};
 ghost use Rattle.cell_store.specs.inner.Maps.{AreSteadyMaps, IsAdded, IsReleased, IsThere, SetsMapped, cells_at, common_at, mapped_by, owner_at, owner_in};
 
 use crate::Key;
 use crate::heads::{Head, More};
 use crate::index::Place;
+use crate::signal_cells::SignalCells;
 use owned_text::OutOfMemory;
 use std::alloc::Global;
 use std::collections::BTreeMap;
@@ -25,7 +26,7 @@ const MOST_MAPS: usize = 65_536;
 struct OwnMap {
     owner: Option<u32>,
     next: u16,
-    cells: BTreeMap<u32, Place>,
+    cells: SignalCells,
 }
 
 /// The maps. There are at most so many that all of them could be of signals with full lists.
@@ -74,7 +75,9 @@ impl Maps {
         ensures err { OnErr result (AreSteadyMaps self.old self.new) }
     {
         if head.is_own() {
-            insert_own(&mut self.own[head.first as usize].cells, key.start, place)
+            self.own[head.first as usize]
+                .cells
+                .insert_if_absent(key.start, place)
         } else {
             insert_common(&mut self.common, key, place)
         }
@@ -86,18 +89,14 @@ impl Maps {
         ensures { SetsMapped head self.old self.new key.now None }
     {
         if head.is_own() {
-            remove_own(&mut self.own[head.first as usize].cells, key.start);
+            self.own[head.first as usize].cells.remove(key.start);
         } else {
             self.common.remove(key);
         }
     }
 
     /// Gives a signal a map of its own with these cells, and returns its number, where one can be had.
-    pub fn add(
-        &mut self,
-        signal: u32,
-        cells: BTreeMap<u32, Place>,
-    ) -> Result<Option<u16>, OutOfMemory>
+    pub fn add(&mut self, signal: u32, cells: SignalCells) -> Result<Option<u16>, OutOfMemory>
         ensures added { IfOk result (λ added. IfSome added (IsAdded self.old self.new signal cells)) }
         ensures stays { IfOk result (λ added. IfNone added (AreSteadyMaps self.old self.new)) }
         ensures err { OnErr result (AreSteadyMaps self.old self.new) }
@@ -129,7 +128,7 @@ impl Maps {
         ensures empty { result ≡ true → (t : ℕ) → cells_at self.old head.first t ≡ None }
         ensures stays { result ≡ false → AreSteadyMaps self.old self.new }
     {
-        if head.is_own() && has_none(&self.own[head.first as usize].cells) {
+        if head.is_own() && self.own[head.first as usize].cells.is_empty() {
             let map = &mut self.own[head.first as usize];
             map.owner = None;
             map.next = self.free;
@@ -140,12 +139,11 @@ impl Maps {
     }
 }
 
-fn last_own(cells: &BTreeMap<u32, Place>, p: Point) -> Option<(u32, Place)>
-    ensures last { IfSome result (λ last. IsLastAt (λ k. get nat_cmp cells.now k.start) p last.0 last.1) }
-    ensures none { IfNone result (IsNoneAt (λ k. get nat_cmp cells.now k.start) p) }
+fn last_own(cells: &SignalCells, p: Point) -> Option<(u32, Place)>
+    ensures last { IfSome result (λ last. IsLastAt (λ k. kept_at cells.now k.start) p last.0 last.1) }
+    ensures none { IfNone result (IsNoneAt (λ k. kept_at cells.now k.start) p) }
 {
-    let (start, place) = cells.range(..=p.time).next_back()?;
-    Some((*start, *place))
+    cells.last_at(p.time)
 }
 
 fn last_common(common: &BTreeMap<Key, Place>, p: Point) -> Option<(u32, Place)>
@@ -162,36 +160,6 @@ fn last_common(common: &BTreeMap<Key, Place>, p: Point) -> Option<(u32, Place)>
     } else {
         None
     }
-}
-
-// Gives a start this place, in one search. One that has a place keeps it, by a second search, and its slot is returned.
-fn insert_own(
-    cells: &mut BTreeMap<u32, Place>,
-    start: u32,
-    place: Place,
-) -> Result<Option<u32>, OutOfMemory>
-    ensures had { IfOk result (λ had. had ≡ option_map (λ p. p.slot) (get nat_cmp cells.old start)) }
-    ensures new { IfOk result (λ had. IfNone had ((t : ℕ) → get nat_cmp cells.new t ≡ (if nat_eq start t then Some place else get nat_cmp cells.old t))) }
-    ensures stays { IfOk result (λ had. IfSome had (λ _. (t : ℕ) → get nat_cmp cells.new t ≡ get nat_cmp cells.old t)) }
-    ensures err { OnErr result ((t : ℕ) → get nat_cmp cells.new t ≡ get nat_cmp cells.old t) }
-{
-    let Some(had) = cells.insert(start, place)? else {
-        return Ok(None);
-    };
-    cells.insert(start, had)?;
-    Ok(Some(had.slot as u32))
-}
-
-fn remove_own(cells: &mut BTreeMap<u32, Place>, start: u32)
-    ensures { (t : ℕ) → get nat_cmp cells.new t ≡ (if nat_eq start t then None else get nat_cmp cells.old t) }
-{
-    cells.remove(&start);
-}
-
-fn has_none(cells: &BTreeMap<u32, Place>) -> bool
-    ensures { result ≡ true → (t : ℕ) → get nat_cmp cells.now t ≡ None }
-{
-    cells.is_empty()
 }
 
 fn insert_common(

@@ -1,5 +1,5 @@
 -- The table of heads: which signals have a place in it, and where.
-use Rattle.std.specs.Prelude.{◌≡◌, ◌⊎◌, Bool, vec_len, ℕ, ◌/◌, ◌%◌, ◌<◌, ◌≤◌, nat_eq, nat_lt, true, false, if◌then◌else◌, List, Option, Some, None, length, slice_get}
+use Rattle.std.specs.Prelude.{◌≡◌, ◌⊎◌, Bool, vec_len, ℕ, ◌/◌, ◌%◌, ◌<◌, nat_eq, nat_lt, true, false, if◌then◌else◌, List, Option, Some, None, slice_get}
 use Rattle.std.specs.Global.{Vec}
 use Rattle.cell_store.specs.declared.heads.Head.{Head}
 use Rattle.cell_store.specs.declared.heads.Heads.{Heads}

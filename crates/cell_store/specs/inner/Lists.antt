@@ -1,5 +1,5 @@
 -- The lists of an index: nodes in one array, each linked to the node of its signal that begins before it, and the maps beside them.
-use Rattle.std.specs.Prelude.{◌≡◌, ℕ, ◌<◌, ◌≤◌, Bool, true, false, ◌&&◌, not, nat_eq, nat_lt, suc, if◌then◌else◌, List, [], ◌∷◌, slice_get, Option, Some, None, IfSome, IfNone, IsSome, option_map, length}
+use Rattle.std.specs.Prelude.{◌≡◌, ℕ, ◌<◌, ◌≤◌, Bool, true, false, ◌&&◌, not, nat_eq, nat_lt, suc, if◌then◌else◌, List, [], ◌∷◌, slice_get, Option, Some, None, IfSome, IfNone, IsSome, length}
 use Rattle.std.specs.Ordering.{is_eq}
 use Rattle.valid_intervals.specs.declared.Point.{Point}
 use Rattle.cell_store.specs.declared.Key.{Key}

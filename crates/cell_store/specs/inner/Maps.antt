@@ -1,7 +1,7 @@
 -- The ordered maps of an index: one for each signal that has its own, and one for the others.
-use Rattle.std.specs.Prelude.{◌≡◌, ℕ, ◌<◌, Bool, true, ◌&&◌, not, nat_eq, if◌then◌else◌, List, Option, Some, None, IsSome, slice_get, length}
-use Rattle.std.specs.BTreeMap.{BTreeMap, get}
-use Rattle.std.specs.Ordering.{is_eq, nat_cmp}
+use Rattle.std.specs.Prelude.{◌≡◌, ℕ, ◌<◌, true, ◌&&◌, not, nat_eq, if◌then◌else◌, List, Option, Some, None, IsSome, slice_get, length}
+use Rattle.std.specs.BTreeMap.{get}
+use Rattle.std.specs.Ordering.{is_eq}
 use Rattle.cell_store.specs.declared.Key.{Key}
 use Rattle.cell_store.specs.declared.heads.Head.{Head}
 use Rattle.cell_store.specs.declared.heads.Heads.{Heads}
@@ -13,13 +13,14 @@ use Rattle.cell_store.specs.declared.maps.Maps.{Maps}
 use Rattle.cell_store.specs.inner.Heads.{head_for, is_own}
 use Rattle.cell_store.specs.inner.Index.{key_cmp}
 use Rattle.cell_store.specs.inner.Lists.{IsIndex, listed, or_else}
+use Rattle.cell_store.specs.inner.SignalCells.{kept_at}
 
 abbrev pub owner_in : Option OwnMap → Option ℕ
 owner_in (Some m) = m.owner
 owner_in None = None
 
 abbrev pub cells_in : Option OwnMap → ℕ → Option Place
-cells_in (Some m) start = get nat_cmp m.cells start
+cells_in (Some m) start = kept_at m.cells start
 cells_in None start = None
 
 -- the signal that has the map of this number, and the cells in it by their start
@@ -67,10 +68,10 @@ pub record SetsMapped (head : Head) (maps new : Maps) (key : Key) (o : Option Pl
   pub common : (q : Key) → common_at new q ≡ (if not (is_own head.more) && is_eq (key_cmp key q) then o else common_at maps q)
 
 -- a signal got a map that none had, with these cells
-pub record IsAdded (maps new : Maps) (signal : ℕ) (places : BTreeMap ℕ Place) (n : ℕ) : Type 0 where
+pub record IsAdded (maps new : Maps) (signal : ℕ) (places : List (ℕ × Place)) (n : ℕ) : Type 0 where
   pub free : owner_at maps n ≡ None
   pub owners : (m : ℕ) → owner_at new m ≡ (if nat_eq n m then Some signal else owner_at maps m)
-  pub cells : (m t : ℕ) → cells_at new m t ≡ (if nat_eq n m then get nat_cmp places t else cells_at maps m t)
+  pub cells : (m t : ℕ) → cells_at new m t ≡ (if nat_eq n m then kept_at places t else cells_at maps m t)
   pub common : (q : Key) → common_at new q ≡ common_at maps q
 
 -- a signal gives up its map

@@ -1,8 +1,7 @@
-use Rattle.std.proofs.Common.{◌≡◌, ◌<◌, ℕ, Bool, false, cond, nat_eq, List, length, Option, Some, None, refl, sym, ap, subst, ◌∙◌, arith}
+use Rattle.std.proofs.Common.{◌≡◌, ℕ, Bool, cond, nat_eq, length, Option, Some, refl, sym, ap, subst, ◌∙◌}
 use Rattle.std.specs.List.{slice_get}
 use Rattle.std.proofs.lemmas.Option.{slice_get_read}
 use Rattle.cell_store.specs.declared.Key.{Key}
-use Rattle.cell_store.specs.declared.index.Node.{Node}
 use Rattle.cell_store.specs.declared.index.Place.{Place}
 use Rattle.cell_store.specs.inner.Heads.{head_for}
 use Rattle.cell_store.specs.inner.Lists.{link_in, link_at, held_at, bound}

@@ -1,5 +1,4 @@
-use Rattle.std.proofs.Common.{◌≡◌, ◌+◌, ◌<◌, ℕ, Bool, Option, Some, None, List, length, cond, nat_eq, refl, sym, ap, subst, ◌∙◌, eq-eqb, arith}
-use Rattle.std.specs.List.{slice_get}
+use Rattle.std.proofs.Common.{List, sym, subst, arith}
 use Rattle.cell_store.specs.declared.index.Node.{Node}
 use Rattle.cell_store.specs.inner.Lists.{AreSteady, IsFree}
 use Rattle.cell_store.proofs.Nodes.{pushed_steady, pushed_free}

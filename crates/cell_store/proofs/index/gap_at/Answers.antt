@@ -1,7 +1,5 @@
-use Rattle.std.proofs.Common.{◌≡◌, ◌<◌, ℕ, Option, Some, sym, subst, arith, refl}
-use Rattle.std.specs.List.{slice_get}
+use Rattle.std.proofs.Common.{ℕ, Option, Some, sym, subst}
 use Rattle.std.proofs.lemmas.Option.{slice_get-get_or}
-use Rattle.cell_store.specs.inner.Lists.{way_from, link_in}
 use Rattle.cell_store.proofs.Nodes.{IsSearching, within, search_goes_on, search_shorter}
 use Rattle.cell_store.proofs.index.gap_at.Goals as goal
 

@@ -1,4 +1,4 @@
-use Rattle.std.proofs.Common.{◌≡◌, ℕ, Option, IfSome, subst}
+use Rattle.std.proofs.Common.{ℕ, Option, IfSome, subst}
 use Rattle.cell_store.specs.inner.Heads.{head_for}
 use Rattle.cell_store.specs.inner.Maps.{IsAdded}
 use Rattle.cell_store.proofs.Emptied.{HasMoved, has_moved}

@@ -1,4 +1,4 @@
-use Rattle.std.proofs.Common.{◌≡◌, subst, arith}
+use Rattle.std.proofs.Common.{subst, arith}
 use Rattle.cell_store.specs.declared.heads.Head.{Head}
 use Rattle.cell_store.specs.inner.Heads.{head_for}
 use Rattle.cell_store.specs.inner.Lists.{HeadSet}

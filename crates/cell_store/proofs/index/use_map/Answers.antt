@@ -1,8 +1,6 @@
-use Rattle.std.proofs.Common.{◌≡◌, ℕ, false, Option, refl, sym, ap, ◌∙◌}
-use Rattle.cell_store.specs.declared.Key.{Key}
+use Rattle.std.proofs.Common.{◌≡◌, refl, sym, ap, ◌∙◌}
 use Rattle.cell_store.specs.declared.heads.Head.{Head}
-use Rattle.cell_store.specs.declared.heads.More.TheVariants.{Nothing, Common}
-use Rattle.cell_store.specs.declared.index.Place.{Place}
+use Rattle.cell_store.specs.declared.heads.More.TheVariants.{Common}
 use Rattle.cell_store.specs.inner.Heads.{has_map, head_for}
 use Rattle.cell_store.specs.inner.Lists.{first_in, listed, or_else}
 use Rattle.cell_store.proofs.Owned.{IsCommon, common_set, no_map, steady_mapped, steady_whole}

@@ -1,4 +1,4 @@
-use Rattle.std.proofs.Common.{◌≡◌, ◌<◌, ◌≤◌, ⊎_elim, ℕ, List, Option, Some, None, IsSome, IfSome, IfNone, refl, sym, ap, subst, ◌∙◌, arith}
+use Rattle.std.proofs.Common.{◌<◌, ◌≤◌, ⊎_elim, List, Some, refl, ap, ◌∙◌, arith}
 use Rattle.valid_intervals.specs.Spans.{Span, IsSpan}
 use Rattle.valid_intervals.specs.Cells.{covers}
 use Rattle.cell_store.specs.declared.Key.{Key}

@@ -1,6 +1,6 @@
-use Rattle.std.proofs.Common.{Some, ap, subst, ◌∙◌, sym, ℕ, Option}
+use Rattle.std.proofs.Common.{subst, ◌∙◌, sym, ℕ, Option}
 use Rattle.cell_store.specs.inner.Heads.{head_at, HasHead}
-use Rattle.cell_store.proofs.Pages.{has_place, written_head}
+use Rattle.cell_store.proofs.Pages.{has_place}
 use Rattle.cell_store.proofs.heads.Heads.replace.Goals as goal
 
 pub write_head-requires : goal.write_head-requires

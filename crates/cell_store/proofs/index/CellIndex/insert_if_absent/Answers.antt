@@ -1,16 +1,16 @@
-use Rattle.std.proofs.Common.{◌≡◌, ℕ, Bool, true, false, cond, List, Option, Some, None, IsSome, Result, IfOk, IfNone, IfSome, OnErr, option_map, refl, sym, ap, subst, ◌∙◌}
+use Rattle.std.proofs.Common.{◌≡◌, Bool, true, false, cond, List, Option, Some, None, option_map, sym, ap, subst, ◌∙◌}
 use Rattle.std.specs.List.{slice_get}
 use Rattle.std.specs.Ordering.{is_eq}
+use Rattle.std.proofs.lemmas.Result.{on_err_weaker, IfOk-weaker}
 use Rattle.cell_store.specs.declared.Key.{Key}
 use Rattle.cell_store.specs.declared.heads.Head.{Head}
-use Rattle.cell_store.specs.declared.heads.More.TheVariants.{Nothing}
 use Rattle.cell_store.specs.declared.index.Place.{Place}
 use Rattle.cell_store.specs.declared.index.Node.{Node}
 use Rattle.cell_store.specs.inner.Heads.{has_map, is_own, head_for}
 use Rattle.cell_store.specs.inner.Index.{key_cmp}
 use Rattle.cell_store.specs.inner.Lists.{held_at, link_at, firsts, bound, listed, or_else, place_starting, IsGap, IsListed, IsListedOr, AreAllSteady}
-use Rattle.cell_store.specs.inner.Maps.{mapped_in, Places, place_of, IsWhole}
-use Rattle.cell_store.proofs.Results.{on_err, on_error, if_value, none_had, some_had}
+use Rattle.cell_store.specs.inner.Maps.{mapped_in, Places, place_of}
+use Rattle.cell_store.proofs.Results.{on_err, none_had, some_had}
 use Rattle.cell_store.proofs.Listed.{listed_same}
 use Rattle.cell_store.proofs.Indexed.{gap_here, listed_starting, listed_index, listed_places}
 use Rattle.cell_store.proofs.Owned.{there, own_has, own_unlisted, nothing_mapped, not_own, set_whole, set_mapped, steady_whole, steady_all, insert_whole, insert_had, insert_new, insert_same}
@@ -36,7 +36,7 @@ invariant_of-self c =
 pub returns-then-is_own-clause-had : goal.returns-then-is_own-clause-had
 returns-then-is_own-clause-had c =
     let w = (goal.at.returns-then-is_own-clause-had c).Then-is_own in
-    if_value c.insert.result (λ had e. e ∙ ap (λ (s : Places). option_map (λ (p : Place). p.slot) (place_of s c.args.key)) c.self.view_is)
+    IfOk-weaker c.insert.result _ _ (λ had e. e ∙ ap (λ (s : Places). option_map (λ (p : Place). p.slot) (place_of s c.args.key)) c.self.view_is)
     (insert_had c.self.inside.nodes.items (head_for c.self.inside.heads) c.self.inside.maps c.insert.new.self c.self.invariant c.args.key c.args.place c.at-head.result c.at-head.ensures (not_in_list w) (in_map w) c.insert.result c.insert.ensures.had)
 
 pub returns-then-is_own-clause-new : goal.returns-then-is_own-clause-new
@@ -57,7 +57,7 @@ returns-then-is_own-clause-stays c =
 pub returns-then-is_own-clause-err : goal.returns-then-is_own-clause-err
 returns-then-is_own-clause-err c =
     let w = (goal.at.returns-then-is_own-clause-err c).Then-is_own in
-    on_error c.insert.result
+    on_err_weaker c.insert.result
     (λ st q.
     insert_same c.self.inside.nodes.items (head_for c.self.inside.heads) c.self.inside.maps c.insert.new.self c.self.invariant c.args.key c.args.place c.at-head.result c.at-head.ensures (not_in_list w) (in_map w) c.insert.result st q
     ∙ ap (λ (s : Places). place_of s q) c.self.view_is)
@@ -187,7 +187,7 @@ invariant_of-self-2 c =
 pub returns-clause-had : goal.returns-clause-had
 returns-clause-had c =
     let w = goal.at.returns-clause-had c in
-    if_value c.insert-2.result (λ had e. e ∙ ap (option_map (λ (p : Place). p.slot)) (others_stay w.After-use_map c.args.key))
+    IfOk-weaker c.insert-2.result _ _ (λ had e. e ∙ ap (option_map (λ (p : Place). p.slot)) (others_stay w.After-use_map c.args.key))
     (insert_had c.use_map.new.nodes.items (head_for c.use_map.new.heads) c.use_map.new.maps c.insert-2.new.self c.use_map.ensures.whole c.args.key c.args.place c.at.result c.at.ensures
     (unlisted_in w.After-use_map (unlisted w.After-place_starting c.in_default.is)) (has_in w.After-insert-2) c.insert-2.result c.insert-2.ensures.had)
 
@@ -211,7 +211,7 @@ returns-clause-stays c =
 pub returns-clause-err : goal.returns-clause-err
 returns-clause-err c =
     let w = goal.at.returns-clause-err c in
-    on_error c.insert-2.result
+    on_err_weaker c.insert-2.result
     (λ st q.
     insert_same c.use_map.new.nodes.items (head_for c.use_map.new.heads) c.use_map.new.maps c.insert-2.new.self c.use_map.ensures.whole c.args.key c.args.place c.at.result c.at.ensures
     (unlisted_in w.After-use_map (unlisted w.After-place_starting c.in_default.is)) (has_in w.After-insert-2) c.insert-2.result st q

@@ -4,7 +4,7 @@ use Rattle.cell_store.specs.declared.heads.Head.{Head}
 use Rattle.cell_store.specs.declared.index.Place.{Place}
 use Rattle.cell_store.specs.declared.index.Node.{Node}
 use Rattle.cell_store.specs.inner.Heads.{has_map, head_for}
-use Rattle.cell_store.specs.inner.Lists.{held_at, link_at, firsts, bound, listed, start_and_place, later_of, Within, IsGap, IsLastAt, IsNoneAt}
+use Rattle.cell_store.specs.inner.Lists.{held_at, link_at, firsts, bound, listed, start_and_place, Within, IsGap, IsLastAt, IsNoneAt}
 use Rattle.cell_store.specs.inner.Maps.{mapped_by, mapped_in, Places, place_of}
 use Rattle.cell_store.proofs.Nodes.{searchable, gap_within}
 use Rattle.cell_store.proofs.Indexed.{gap_here, last_of_list, none_of_list, none_mapped, later_last, later_none}

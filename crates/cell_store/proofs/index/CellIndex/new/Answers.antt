@@ -1,4 +1,4 @@
-use Rattle.std.proofs.Common.{◌≡◌, List, sym, ap, ap₂, subst, ◌∙◌}
+use Rattle.std.proofs.Common.{List, sym, ap, ap₂, subst, ◌∙◌}
 use Rattle.cell_store.specs.declared.index.Node.{Node}
 use Rattle.cell_store.specs.inner.Heads.{head_for}
 use Rattle.cell_store.specs.inner.Lists.{listed, or_else}

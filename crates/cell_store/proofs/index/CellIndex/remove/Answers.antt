@@ -1,4 +1,4 @@
-use Rattle.std.proofs.Common.{◌≡◌, ◌<◌, ℕ, Bool, false, inl, cond, List, length, Option, Some, None, IsSome, IfSome, get_or, refl, sym, ap, ap₂, subst, ◌∙◌, arith}
+use Rattle.std.proofs.Common.{◌≡◌, ◌<◌, ℕ, false, inl, cond, List, length, Option, Some, None, IsSome, get_or, refl, sym, ap, ap₂, subst, ◌∙◌, arith}
 use Rattle.std.specs.List.{slice_get}
 use Rattle.std.specs.Ordering.{is_eq}
 use Rattle.std.proofs.lemmas.Option.{slice_get_read}
@@ -8,7 +8,7 @@ use Rattle.cell_store.specs.declared.index.Place.{Place}
 use Rattle.cell_store.specs.declared.index.Node.{Node}
 use Rattle.cell_store.specs.inner.Heads.{is_own, head_for}
 use Rattle.cell_store.specs.inner.Index.{key_cmp}
-use Rattle.cell_store.specs.inner.Lists.{key_at, held_at, link_at, firsts, first_in, bound, link_in, listed, or_else, starts_at, shorter_first, IsGap, IsIndex, IsTakenOut}
+use Rattle.cell_store.specs.inner.Lists.{held_at, link_at, firsts, first_in, bound, link_in, listed, or_else, starts_at, shorter_first, IsGap, IsTakenOut}
 use Rattle.cell_store.specs.inner.Maps.{mapped_in, Places, place_of}
 use Rattle.cell_store.proofs.Nodes.{held_within}
 use Rattle.cell_store.proofs.Keys.{equal_keys}

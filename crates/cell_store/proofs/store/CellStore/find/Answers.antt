@@ -6,7 +6,7 @@ use Rattle.lru.specs.LruCache.{LruCache}
 use Rattle.valid_intervals.specs.declared.SignalCell.{SignalCell}
 use Rattle.valid_intervals.specs.Cells.{covers, cell_for, to_front, stored_at}
 use Rattle.cell_store.specs.Recency.{Contents, contents, with_cells}
-use Rattle.cell_store.specs.inner.Index.{key_cmp, end_in, cells_of, IsInFront, IsSoundStore}
+use Rattle.cell_store.specs.inner.Index.{end_in, cells_of, IsInFront, IsSoundStore}
 use Rattle.cell_store.proofs.Placed.{none_found}
 use Rattle.cell_store.proofs.Calls.{IsFound, is_found}
 use Rattle.cell_store.proofs.Entries.{is_there}

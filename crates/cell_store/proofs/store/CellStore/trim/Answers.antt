@@ -1,7 +1,7 @@
 use Rattle.std.proofs.Common.{ℕ, refl, ◌+◌, List, [], ◌∷◌, ◌++◌, sym, subst, ◌∙◌, arith}
 use Rattle.cell_store.specs.inner.Maps.{place_of}
 use Rattle.cell_store.specs.declared.Key.{Key}
-use Rattle.cell_store.specs.inner.Index.{key_cmp, IsFront, IsSoundStore}
+use Rattle.cell_store.specs.inner.Index.{IsFront, IsSoundStore}
 use Rattle.cell_store.proofs.Trims.{IsTrimming, trim_begins, many_lost, trim_goes_on, trim_ends}
 use Rattle.cell_store.proofs.store.CellStore.trim.Goals as goal
 

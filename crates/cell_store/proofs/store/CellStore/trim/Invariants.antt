@@ -1,6 +1,5 @@
 use Rattle.std.proofs.Common.{◌≡◌, ◌+◌, ◌-◌, ◌≤◌, length, None, vec_len, vec_capacity}
 use Rattle.cell_store.specs.inner.Maps.{place_of}
-use Rattle.cell_store.specs.inner.Index.{key_cmp}
 use Rattle.cell_store.proofs.Trims.{IsTrimming}
 use Rattle.cell_store.proofs.store.CellStore.trim.Given as goal
 
