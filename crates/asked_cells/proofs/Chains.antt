@@ -8,7 +8,7 @@ use Rattle.std.proofs.Math.Seq.{map-set_same, get_or-append_seam}
 use Rattle.std.proofs.lemmas.Nat.{and_le_r, pow_pos}
 use Rattle.valid_intervals.specs.declared.Point.{Point}
 use Rattle.journal_meaning.specs.declared.Entry.{Entry}
-use Rattle.journal_meaning.specs.inner.Index.{SaidCell, cell_said}
+use Rattle.journal_meaning.specs.Entries.{SaidCell, cell_said}
 use Rattle.journal_meaning.proofs.Lists.{Each, each-imply}
 use Rattle.asked_cells.specs.declared.places.Noted.{Noted}
 use Rattle.asked_cells.specs.Wanted.{Marked, is_wanted}
@@ -377,7 +377,3 @@ none-holds (Some x) P e h = absurd (cc e)
 pub none-more : {A : Type 0} (o : Option A) (P Q : Type 0) → (P → Q) → IfNone o P → IfNone o Q
 none-more None P Q f h = f h
 none-more (Some x) P Q f h = tt
-
-pub none-if : {A : Type 0} (o : Option A) (P : Type 0) → P → IfNone o P
-none-if None P h = h
-none-if (Some x) P h = tt

@@ -1,5 +1,5 @@
 -- How many points queries filled, counted entry by entry, and in parts.
-use Rattle.std.proofs.Common.{◌≡◌, ℕ, ◌+◌, ◌≤◌, min, nat_eq, Bool, true, false, cond, List, [], ◌∷◌, ◌++◌, length, refl, sym, ap, ap₂, ◌∙◌, arith}
+use Rattle.std.proofs.Common.{◌≡◌, ℕ, ◌+◌, ◌≤◌, min, nat_eq, Bool, true, false, cond, List, [], ◌∷◌, ◌++◌, length, None, refl, sym, ap, ap₂, ◌∙◌, arith}
 use Rattle.std.proofs.Math.Nat.{min-le_right}
 use Rattle.valid_intervals.specs.declared.Cell.{Cell}
 use Rattle.valid_intervals.specs.declared.Point.{Point}
@@ -7,7 +7,8 @@ use Rattle.valid_intervals.specs.declared.SignalCell.{SignalCell}
 use Rattle.journal_meaning.specs.declared.Entry.{Entry}
 use Rattle.journal_meaning.specs.declared.Entry.TheVariants.{Told, Claimed, Filled, Evicted, Dropped, Spent}
 use Rattle.journal_meaning.specs.Answers.{is_fill_of, fill_count}
-use Rattle.journal_meaning.proofs.Grown.{count-none, filled-more}
+use Rattle.journal_meaning.specs.Counts.{evaluated_point}
+use Rattle.journal_meaning.proofs.Grown.{count-none, fills-none, filled-more}
 use Rattle.journal_meaning.proofs.Lists.{each-imply}
 use Rattle.batch_meaning.specs.Batches.{Batch}
 use Rattle.batch_meaning.specs.Lawful.{IsLawful}
@@ -33,6 +34,12 @@ one-filled q n p x = by (nat_eq q n)
 pub counted-filled : (es : List Entry) (q : ℕ) (p : Point) (x : Cell) (old new : FillCounts) → HasCounted es old → ((n k : ℕ) → fills_in old n ≡ min k 4294967295 → fills_in new n ≡ min (k + one_more_for q n) 4294967295) → HasCounted (es ++ Filled q p x ∷ []) new
 counted-filled es q p x old new h add = λ n.
     add n (fill_count es n) (h n) ∙ ap (λ k. min k 4294967295) (ap (λ k. fill_count es n + k) (sym (one-filled q n p x)) ∙ sym (filled-append es (Filled q p x ∷ []) n))
+
+-- and an entry that evaluates no point leaves the counts
+pub counted-other : (es : List Entry) (e : Entry) (counts : FillCounts) → evaluated_point e ≡ None → HasCounted es counts → HasCounted (es ++ e ∷ []) counts
+counted-other es e counts none h = λ n.
+    let same : fill_count es n ≡ fill_count (es ++ e ∷ []) n = (let a = filled-append es (e ∷ []) n in let b = fills-none n e none in omega (arith, a, b)) in
+    h n ∙ ap (λ k. min k 4294967295) same
 
 -- at most so many are counted
 all-most : (parts : List FillCounts) (n : ℕ) → fills_in_all parts n ≤ 4294967295

@@ -10,7 +10,8 @@ use Rattle.circuit_meaning.proofs.Cover.{cell-covers}
 use Rattle.journal_meaning.specs.declared.Entry.{Entry}
 use Rattle.journal_meaning.specs.declared.Entry.TheVariants.{Told, Claimed, Filled, Evicted, Dropped, Spent}
 use Rattle.journal_meaning.specs.inner.Grown.{IsRightEntry}
-use Rattle.journal_meaning.specs.inner.Index.{SaidCell, cell_said, cells_said, IsFound}
+use Rattle.journal_meaning.specs.Entries.{SaidCell, cell_said}
+use Rattle.journal_meaning.specs.inner.Index.{cells_said, IsFound}
 use Rattle.batch_meaning.specs.Batches.{Batch}
 use Rattle.batch_meaning.specs.Lawful.{IsLawful}
 use Rattle.memo_shards.specs.KeptShards.{KeptShard}
@@ -34,7 +35,7 @@ on-some None P Q f h = tt
 on-some (Some x) P Q f h = f x h
 
 -- the cell that a right entry says
-right-cell : (c : Circuit) (e : Entry) (f : SaidCell) → cell_said e ≡ Some f → IsRightEntry c e → (f.point.time ≤ c.horizon) × (f.cell ≡ cell_at c f.point)
+pub right-cell : (c : Circuit) (e : Entry) (f : SaidCell) → cell_said e ≡ Some f → IsRightEntry c e → (f.point.time ≤ c.horizon) × (f.cell ≡ cell_at c f.point)
 right-cell c (Told q p x) f same r = let is : record { point = p; cell = x } ≡ f = cc same in subst (λ (g : SaidCell). (g.point.time ≤ c.horizon) × (g.cell ≡ cell_at c g.point)) is r
 right-cell c (Claimed q p) f same r = absurd (cc same)
 right-cell c (Filled q p x) f same r = let is : record { point = p; cell = x } ≡ f = cc same in subst (λ (g : SaidCell). (g.point.time ≤ c.horizon) × (g.cell ≡ cell_at c g.point)) is r

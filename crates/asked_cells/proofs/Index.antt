@@ -10,7 +10,8 @@ use Rattle.circuit_meaning.specs.Circuit.{Circuit}
 use Rattle.valid_intervals.specs.declared.Cell.{Cell}
 use Rattle.valid_intervals.specs.declared.Point.{Point}
 use Rattle.journal_meaning.specs.declared.Entry.{Entry}
-use Rattle.journal_meaning.specs.inner.Index.{SaidCell, cells_said, cell_said, place_of, IsCellIndex}
+use Rattle.journal_meaning.specs.Entries.{SaidCell, cell_said}
+use Rattle.journal_meaning.specs.inner.Index.{cells_said, place_of, IsCellIndex}
 use Rattle.journal_meaning.proofs.Index.{said-append}
 
 module _ (c : Circuit) (index : Point → Option Cell) where

@@ -1,5 +1,5 @@
 -- The pins of an evaluated point, and the points that are needed.
-use Rattle.std.proofs.Common.{ℕ, zero, suc, ◌<◌, List, [], ◌∷◌, length, get_or, All, Option, Some, None, sym, subst, arith}
+use Rattle.std.proofs.Common.{◌≡◌, ℕ, zero, suc, ◌<◌, List, [], ◌∷◌, length, get_or, All, Contains, Option, Some, None, refl, sym, subst, arith}
 use Rattle.std.proofs.lemmas.List.Elements.{All-from_recursion}
 use Rattle.valid_intervals.specs.declared.Point.{Point}
 use Rattle.circuit_meaning.specs.Circuit.{Circuit, Driver, Input}
@@ -12,6 +12,14 @@ use Rattle.journal_meaning.specs.Answers.{IsCovered}
 use Rattle.journal_meaning.proofs.Lists.{Each}
 use Rattle.pin_walks.specs.PinWalks.{looked_at}
 use Rattle.asked_cells.specs.inner.Sources.{IsSourceCovered}
+
+-- a source that is read is one of those there are
+pub somes-has : (os : List (Option Point)) (n : ℕ) (x : Point) → get_or os n None ≡ Some x → Contains (somes os) x
+somes-has [] n x e = absurd (cc e)
+somes-has (None ∷ os) zero x e = absurd (cc e)
+somes-has (Some y ∷ os) zero x e = let same : y ≡ x = cc e in subst (λ z. Contains (y ∷ somes os) z) same (0, omega arith, refl)
+somes-has (None ∷ os) (suc n) x e = somes-has os n x e
+somes-has (Some y ∷ os) (suc n) x e = let m = somes-has os n x e in (suc m.0, (let l = m.1 in omega arith), m.2)
 
 pins-each : (c : Circuit) (es : List Entry) (os : List (Option Point)) → ((i : ℕ) → i < length os → IsSourceCovered c es (get_or os i None)) → Each (IsCovered c es) (somes os)
 pins-each c es [] h = tt

@@ -7,7 +7,8 @@ ghost use Rattle.circuit_meaning.specs.Circuit.{Circuit, IsCircuit};
 ghost use Rattle.journal_meaning.specs.declared.Entry.{Entry as EntryRecord};
 ghost use Rattle.circuit_meaning.specs.Cells.{cell_at};
 ghost use Rattle.journal_meaning.specs.inner.Grown.{IsRightEntry};
-ghost use Rattle.journal_meaning.specs.inner.Index.{SaidCell, cells_said, IsFound, IsCellIndex};
+ghost use Rattle.journal_meaning.specs.Entries.{SaidCell};
+ghost use Rattle.journal_meaning.specs.inner.Index.{cells_said, IsFound, IsCellIndex};
 ghost use Rattle.valid_intervals.specs.Cells.{point_cmp};
 
 use journal_meaning::Entry;
@@ -76,13 +77,9 @@ impl SaidCells {
             → OnOk result (IsCellIndex c (cells_said (es ++ entry.now ∷ []))
             (get point_cmp self.new.cells)) }
     {
-        match entry {
-            Entry::Told { p, cell, .. } => self.insert(*p, *cell),
-            Entry::Filled { p, cell, .. } => self.insert(*p, *cell),
-            Entry::Claimed { .. } => Ok(()),
-            Entry::Evicted { .. } => Ok(()),
-            Entry::Dropped { .. } => Ok(()),
-            Entry::Spent { .. } => Ok(()),
+        match entry.said() {
+            Some((point, cell)) => self.insert(point, cell),
+            None => Ok(()),
         }
     }
 

@@ -91,13 +91,9 @@ impl FillCounts {
         ensures { (es : List EntryRecord) → HasCounted es self.old
             → OnOk result (HasCounted (es ++ entry.now ∷ []) self.new) }
     {
-        match entry {
-            Entry::Filled { q, .. } => self.add(*q),
-            Entry::Told { .. } => Ok(()),
-            Entry::Claimed { .. } => Ok(()),
-            Entry::Evicted { .. } => Ok(()),
-            Entry::Dropped { .. } => Ok(()),
-            Entry::Spent { .. } => Ok(()),
+        match entry.filled() {
+            Some((q, _, _)) => self.add(q),
+            None => Ok(()),
         }
     }
 

@@ -104,13 +104,9 @@ fn is_heard<B: BatchName>(
     requires entry { Contains (entries_of shards.now) entry.now }
     ensures { result ≡ true → IsHeard B.batch.circuit (entries_of shards.now) entry.now }
 {
-    match entry {
-        Entry::Filled { p, .. } => are_children_said(design, shards, places, *p),
-        Entry::Told { .. } => true,
-        Entry::Claimed { .. } => true,
-        Entry::Evicted { .. } => true,
-        Entry::Dropped { .. } => true,
-        Entry::Spent { .. } => true,
+    match entry.filled() {
+        Some((_, p, _)) => are_children_said(design, shards, places, p),
+        None => true,
     }
 }
 

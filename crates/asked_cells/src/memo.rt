@@ -6,7 +6,7 @@ ghost use Rattle.std.specs.List.{AllByRecursion};
 ghost use Rattle.circuit_meaning.specs.Circuit.{Circuit, IsCircuit};
 ghost use Rattle.circuit_meaning.specs.Need.{IsEvaluable};
 ghost use Rattle.journal_meaning.specs.declared.Entry.{Entry as EntryRecord};
-ghost use Rattle.journal_meaning.specs.Answers.{is_fill_of, fill_count};
+ghost use Rattle.journal_meaning.specs.Answers.{fill_count};
 ghost use Rattle.circuit_meaning.specs.Cells.{cell_at};
 ghost use Rattle.journal_meaning.specs.inner.Grown.{IsRightEntry};
 ghost use Rattle.journal_meaning.specs.inner.Index.{cells_said, IsCellIndex, IsFound};
@@ -161,26 +161,12 @@ pub fn begin<B: BatchName>(
     Ok(begin_with(alloc, shards, places))
 }
 
-/// Whether the entry is a fill for the query with this number.
-fn is_fill(entry: &Entry, number: u32) -> bool
-    ensures { result ≡ is_fill_of number entry.now }
-{
-    match entry {
-        Entry::Filled { q, .. } => *q == number,
-        Entry::Told { .. } => false,
-        Entry::Claimed { .. } => false,
-        Entry::Evicted { .. } => false,
-        Entry::Dropped { .. } => false,
-        Entry::Spent { .. } => false,
-    }
-}
-
 /// What the query is charged after this entry, at most its budget.
 fn charged_once(entry: &Entry, query: Query, charge: u32) -> u32
     requires { charge ≤ query.budget }
     ensures { result ≡ min (charge + fill_count (entry.now ∷ []) query.number) query.budget }
 {
-    if !is_fill(entry, query.number) {
+    if !entry.is_fill_of(query.number) {
         return charge;
     }
     if charge < query.budget {

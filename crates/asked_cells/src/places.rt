@@ -1,7 +1,6 @@
 //! Where the entry stands that was recorded for a point.
 
-ghost use Rattle.std.specs.Prelude.{◌≡◌, ◌≢◌, ℕ, ◌+◌, ◌<◌, ◌≤◌, true, List, length, set, slice_index, Some, None, IfSome, IfNone, OnSome, IfOk, OnOk};
-ghost use Rattle.journal_meaning.specs.inner.Index.{cell_said};
+ghost use Rattle.std.specs.Prelude.{◌≡◌, ◌≢◌, ℕ, ◌+◌, ◌<◌, ◌≤◌, true, List, length, set, slice_index, Some, IfSome, IfNone, OnSome, IfOk, OnOk};
 ghost use Rattle.asked_cells.specs.Wanted.{Marked, is_wanted};
 ghost use Rattle.asked_cells.specs.inner.Exact.{IsSaidFor};
 ghost use Rattle.asked_cells.specs.inner.Places.{point_at, points_of, numbers_before, chain_of, IsChain, HasPoint, LacksPoint, IsUnsaid, HasNoted, AreLinked, AreEnough, ArePlaces};
@@ -77,22 +76,6 @@ fn chain_of(p: Point, chains: usize) -> usize
     mixed.wrapping_add(p.time as usize) & chains.wrapping_sub(1)
 }
 
-/// The point for which the entry says a cell, and that cell.
-fn said_by(entry: &Entry) -> Option<(Point, Cell)>
-    ensures some { IfSome result (λ r. cell_said entry.now ≡ Some
-        (record { point = r.0; cell = r.1 })) }
-    ensures none { IfNone result (cell_said entry.now ≡ None) }
-{
-    match entry {
-        Entry::Told { p, cell, .. } => Some((*p, *cell)),
-        Entry::Filled { p, cell, .. } => Some((*p, *cell)),
-        Entry::Claimed { .. } => None,
-        Entry::Evicted { .. } => None,
-        Entry::Dropped { .. } => None,
-        Entry::Spent { .. } => None,
-    }
-}
-
 /// The point for which the entry in this place says a cell.
 fn point_in(journal: &[Entry], place: usize) -> Option<Point>
     ensures { result ≡ point_at journal.now place }
@@ -100,7 +83,7 @@ fn point_in(journal: &[Entry], place: usize) -> Option<Point>
     if place >= journal.len() {
         return None;
     }
-    let (p, _) = said_by(&journal[place])?;
+    let (p, _) = journal[place].said()?;
     Some(p)
 }
 
@@ -113,7 +96,7 @@ fn said_at(journal: &[Entry], place: usize, p: Point) -> Option<Cell>
     if place >= journal.len() {
         return None;
     }
-    let (point, cell) = said_by(&journal[place])?;
+    let (point, cell) = journal[place].said()?;
     if point == p { Some(cell) } else { None }
 }
 

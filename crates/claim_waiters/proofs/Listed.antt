@@ -1,5 +1,5 @@
 -- Claims in a list, in the order of their points.
-use Rattle.std.proofs.Common.{◌≡◌, All, ℕ, zero, suc, ◌+◌, ◌≤◌, ◌<◌, Bool, true, false, cond, List, [], ◌∷◌, ◌++◌, length, take, drop, get_or, refl, ap, sym, ◌∙◌, subst, Option, Some, None, IsSome, arith}
+use Rattle.std.proofs.Common.{◌≡◌, All, ℕ, suc, ◌+◌, ◌≤◌, ◌<◌, Bool, true, false, cond, List, [], ◌∷◌, ◌++◌, length, take, drop, get_or, refl, ap, sym, ◌∙◌, subst, Option, Some, None, IsSome, arith}
 use Rattle.std.specs.Prelude.{slice_get, insert, remove, if◌then◌else◌}
 use Rattle.std.specs.declared.cmp.Ordering.TheVariants.{Less, Equal, Greater}
 use Rattle.std.specs.Ordering.{is_eq, is_gt, match_ordering}
@@ -7,7 +7,7 @@ use Rattle.std.specs.List.{AllByRecursion}
 use Rattle.std.specs.List.Sorted.{IsStrictlySortedBy}
 use Rattle.std.specs.BTreeMap.{insert_entry, is_at}
 use Rattle.std.specs.Map.{keys_of, remove_entry}
-use Rattle.std.proofs.Math.Seq.{take-suc}
+use Rattle.std.proofs.Math.Seq.{split_at, take-suc}
 use Rattle.std.proofs.lemmas.Option.{slice_get-get_or, slice_get_past}
 use Rattle.std.proofs.lemmas.Bool.Decides.{nat_tests}
 use Rattle.std.proofs.lemmas.List.Elements.{All-nil, All-cons}
@@ -136,11 +136,6 @@ query-at (e ∷ es) p order =
       | Greater ↦ λ k. query-at es p (sorted_tail point_cmp e.0 (keys_of es) order)
     ]) refl
 
-parted : {X : Type 0} (es : List X) (n : ℕ) (d : X) → n < length es → take n es ++ get_or es n d ∷ drop (suc n) es ≡ es
-parted [] n d h = absurd (omega arith)
-parted (e ∷ es) zero d h = refl
-parted (e ∷ es) (suc n) d h = ap (λ l. e ∷ l) (parted es n d (omega arith))
-
 -- what is read at the place of a point tells its query
 pub query-found : (es : List (Point × ℕ)) (p : Point) (n : ℕ) (e : Point × ℕ) → IsStrictlySortedBy point_cmp (keys_of es) → n ≡ place_in es p → n < length es → e ≡ get_or es n e
     → at es p ≡ (if same_point e.0 p then Some e.1 else None)
@@ -157,7 +152,7 @@ mapped-on es n d old new order within before is =
     let e = get_or es n d in
     let count : n + 1 ≡ suc n = omega arith in
     is ∙ ap (λ l. insert_entry point_cmp l e.0 e.1) before
-    ∙ appended (take n es) e.0 e.1 (after-all (take n es) (drop (suc n) es) e (subst (λ l. IsStrictlySortedBy point_cmp (keys_of l)) (sym (parted es n d within)) order))
+    ∙ appended (take n es) e.0 e.1 (after-all (take n es) (drop (suc n) es) e (subst (λ l. IsStrictlySortedBy point_cmp (keys_of l)) (split_at es n d within) order))
     ∙ sym (ap (λ k. take k es) count ∙ take-suc es n d within)
 
 -- the first of claims in order is no later than any

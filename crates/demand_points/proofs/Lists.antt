@@ -1,6 +1,7 @@
 -- What is left of the children of a claimed point, and of the roots of a window.
 use Rattle.std.proofs.Common.{◌≡◌, ℕ, zero, suc, ◌+◌, ◌-◌, ◌<◌, ◌≤◌, true, false, cond, List, [], ◌∷◌, length, filter, drop, refl, ap, sym, ◌∙◌, arith, inl, inr, Option, Some, None, le-leb, lt-ltb, le-ltb}
 use Rattle.std.proofs.lemmas.Bool.{cases_Bool, cases_lt}
+use Rattle.std.proofs.lemmas.List.{drop_all}
 use Rattle.std.proofs.Math.Seq.{drop-cons}
 use Rattle.valid_intervals.specs.declared.Point.{Point}
 use Rattle.circuit_meaning.specs.declared.Window.{Window}
@@ -28,19 +29,13 @@ is-evaluable c p h = evaluable-bool p.time (driver c p.signal) h
 pub not-evaluable : (c : Circuit) (p : Point) → (IsEvaluable c p.signal p.time → ⊥) → is_evaluable c p ≡ false
 not-evaluable c p h = elim (cases_Bool (is_evaluable c p)) [ inl t ↦ absurd (h (evaluable-true c p.time (driver c p.signal) t)) | inr f ↦ f ]
 
-drop-all : {A : Type 0} (xs : List A) (n : ℕ) → length xs ≤ n → drop n xs ≡ []
-drop-all [] zero h = refl
-drop-all [] (suc n) h = refl
-drop-all (x ∷ xs) zero h = absurd (omega arith)
-drop-all (x ∷ xs) (suc n) h = drop-all xs n (omega arith)
-
 drop-none : {A : Type 0} (xs : List A) → drop 0 xs ≡ xs
 drop-none [] = refl
 drop-none (x ∷ xs) = refl
 
 -- nothing is left once all is looked at, and everything before
 pub left-done : (c : Circuit) (f : PinWalk) → f.looked ≡ length (looked_at c f.point) → left_after c f.point f.looked ≡ []
-left-done c f h = ap (λ os. filter (is_evaluable c) (somes os)) (drop-all (looked_at c f.point) f.looked (omega arith))
+left-done c f h = ap (λ os. filter (is_evaluable c) (somes os)) (drop_all f.looked (looked_at c f.point) (omega arith))
 
 pub left-all : (c : Circuit) (p : Point) → left_after c p 0 ≡ asked_children c p
 unfolding asked_children
@@ -65,17 +60,14 @@ module _ (c : Circuit) (f : PinWalk) (looking : IsLooking c f) where
   left-ask p e h = next-left (Some p) e ∙ ap (λ b. cond b (p ∷ left_after c f.point (f.looked + 1)) (left_after c f.point (f.looked + 1))) (is-evaluable c p h)
 
   module _ (g : PinWalk) (l : LooksOn c f g) where
-    moved-left : left_after c g.point g.looked ≡ left_after c f.point (f.looked + 1)
-    moved-left = ap (λ p. left_after c p g.looked) l.point ∙ ap (left_after c f.point) l.looked
+    pub looked-left : left_after c g.point g.looked ≡ left_after c f.point (f.looked + 1)
+    looked-left = ap (λ p. left_after c p g.looked) l.point ∙ ap (left_after c f.point) l.looked
 
     pub hears-early : next_point c f ≡ None → HearsBase c f g
-    hears-early e = record { looks = l; left = moved-left ∙ sym (left-early e) }
+    hears-early e = record { looks = l; left = looked-left ∙ sym (left-early e) }
 
     pub hears-base : (p : Point) → next_point c f ≡ Some p → (IsEvaluable c p.signal p.time → ⊥) → HearsBase c f g
-    hears-base p e h = record { looks = l; left = moved-left ∙ sym (left-base p e h) }
-
-    pub looked-left : left_after c g.point g.looked ≡ left_after c f.point (f.looked + 1)
-    looked-left = moved-left
+    hears-base p e h = record { looks = l; left = looked-left ∙ sym (left-base p e h) }
 
 pub hears-none : (c : Circuit) (f : PinWalk) → IsPinWalk c f → HearsBases c f f
 hears-none c f is = record { walk = is; point = refl; left = refl }

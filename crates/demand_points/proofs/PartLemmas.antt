@@ -1,6 +1,7 @@
 -- The parts of a strand at each of its steps.
 use Rattle.std.proofs.Common.{◌≡◌, ℕ, zero, suc, ◌+◌, ◌-◌, ◌<◌, ◌≤◌, if◌then◌else◌, Bool, true, false, List, [], ◌∷◌, length, map, get_or, refl, ap, sym, ◌∙◌, subst, arith, inl, inr, Option, Some, None, MatchOption, lt-ltb, le-ltb}
 use Rattle.std.proofs.lemmas.Bool.{cases_Bool, cases_lt}
+use Rattle.std.proofs.lemmas.List.{get_or_default}
 use Rattle.std.proofs.Math.ListN.{get_or-map, length-map}
 use Rattle.valid_intervals.specs.declared.Cell.{Cell}
 use Rattle.valid_intervals.specs.declared.Point.{Point}
@@ -27,11 +28,6 @@ use Rattle.demand_points.specs.Demands.{roots_left, IsAskedCell, itself}
 use Rattle.pin_walks.proofs.PinWalkLemmas.{looking-below, next-among}
 use Rattle.demand_points.proofs.Lists.{left-done, left-all, left-ask, looked-left, no-roots, root-base, root-ask}
 
-get_or-default : {A : Type 0} (xs : List A) (k : ℕ) (d e : A) → k < length xs → get_or xs k d ≡ get_or xs k e
-get_or-default [] k d e h = absurd (omega arith)
-get_or-default (x ∷ xs) zero d e h = refl
-get_or-default (x ∷ xs) (suc k) d e h = get_or-default xs k d e (omega arith)
-
 -- the point that a pin of a walk reads is one of the circuit
 source-within : (n h t : ℕ) (d : Driver) (k : ℕ) (p : Point) → IsDriver n h d → t ≤ h → k < length (pin_points_at t d) → get_or (pin_points_at t d) k None ≡ Some p → (p.signal < n) × (p.time ≤ h)
 source-within n h t (Input settings) k p ok le below e = absurd (omega arith)
@@ -49,7 +45,7 @@ source-within n h t (Gate kind pins) k p ok le below e =
     ]
   where
     e' : (d : Option Point) → get_or (map (pin_point t) pins) k d ≡ Some p
-    e' d = get_or-default (map (pin_point t) pins) k d None below ∙ e
+    e' d = get_or_default (map (pin_point t) pins) k d None below ∙ e
 source-within n h t (Flop f) k p ok le below e = go (shown_edge f.clock f.delay t) refl k below e
   where
     go : (o : Option ℕ) → shown_edge f.clock f.delay t ≡ o → (j : ℕ) → j < length (flop_points f.pin o) → get_or (flop_points f.pin o) j None ≡ Some p → (p.signal < n) × (p.time ≤ h)

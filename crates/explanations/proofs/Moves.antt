@@ -28,6 +28,7 @@ use Rattle.circuit_meaning.proofs.BaseCells.{base-answers}
 use Rattle.circuit_meaning.proofs.Looking.{children-somes}
 use Rattle.std.specs.Prelude.{MatchOption}
 use Rattle.journal_meaning.proofs.Windows.{covered-cell}
+use Rattle.asked_cells.proofs.Pins.{somes-has}
 
 -- the source of a pin at another time: none where there was none, or else a point of the same cell
 abbrev pub IsMoved : Circuit → Option Point → Option Point → Type 0
@@ -36,13 +37,6 @@ IsMoved c (Some p) (Some q) = (q.signal ≡ p.signal) × IsIn (span c p.signal p
 IsMoved c o r = ⊥
 
 -- ---- sources are children
-
-somes-has : (os : List (Option Point)) (n : ℕ) (x : Point) → get_or os n None ≡ Some x → Contains (somes os) x
-somes-has [] n x e = absurd (cc e)
-somes-has (None ∷ os) zero x e = absurd (cc e)
-somes-has (Some y ∷ os) zero x e = let same : y ≡ x = cc e in subst (λ z. Contains (y ∷ somes os) z) same (0, omega arith, refl)
-somes-has (None ∷ os) (suc n) x e = somes-has os n x e
-somes-has (Some y ∷ os) (suc n) x e = let m = somes-has os n x e in (suc m.0, (let l = m.1 in omega arith), m.2)
 
 -- a pin that is looked at reads a child
 pub source-child : (c : Circuit) (s t n : ℕ) (x : Point) → get_or (looked_points c s t) n None ≡ Some x → Contains (children c s t) x

@@ -1,39 +1,33 @@
 -- A window that is walked from cell to cell, over shards in which nothing was recorded.
-use Rattle.std.proofs.Common.{◌≡◌, ℕ, ◌+◌, ◌<◌, ◌≤◌, Bool, true, false, List, [], ◌∷◌, ◌++◌, All, Contains, length, Option, Some, None, refl, sym, ap, subst, ◌∙◌, arith, inl, inr}
+use Rattle.std.proofs.Common.{◌≡◌, ℕ, ◌+◌, ◌<◌, ◌≤◌, Bool, true, false, List, [], ◌∷◌, All, Contains, length, Option, Some, None, refl, sym, ap, subst, ◌∙◌, arith, inl, inr}
 use Rattle.std.proofs.lemmas.Bool.{cases_lt}
 use Rattle.std.proofs.lemmas.List.Elements.{All-contains}
 use Rattle.gate_values.specs.declared.Value.{Value}
 use Rattle.gate_values.specs.Gates.{same_value}
-use Rattle.valid_intervals.specs.declared.Cell.{Cell}
 use Rattle.valid_intervals.specs.declared.Point.{Point}
 use Rattle.valid_intervals.specs.declared.SignalCell.{SignalCell}
-use Rattle.circuit_meaning.specs.Circuit.{Circuit}
 use Rattle.circuit_meaning.specs.Forward.{value}
 use Rattle.circuit_meaning.specs.Cells.{span}
-use Rattle.circuit_meaning.specs.Need.{IsRoot, IsEvaluable, IsNeeded, Root, First}
+use Rattle.circuit_meaning.specs.Need.{IsRoot, IsEvaluable, Root, First}
 use Rattle.circuit_meaning.proofs.Cover.{cell-covers}
 use Rattle.circuit_meaning.proofs.Steady.{cell-steady}
 use Rattle.journal_meaning.specs.declared.Entry.{Entry}
-use Rattle.journal_meaning.specs.Answers.{IsClosed, IsSpent}
 use Rattle.journal_meaning.specs.Grown.{AreAdded}
 use Rattle.journal_meaning.proofs.Grown.{grows-none}
-use Rattle.journal_meaning.proofs.Lists.{Each}
 use Rattle.batch_meaning.specs.declared.Query.{Query}
 use Rattle.batch_meaning.specs.Batches.{Batch, Site, IsNeededBy, NeedOf, window_of}
 use Rattle.batch_meaning.specs.Lawful.{IsLawful}
 use Rattle.batch_meaning.specs.Pieces.{IsStart}
-use Rattle.session_meaning.specs.FirstTimes.{first_time, stop_at, up_to_first, IsFirstOutcome}
+use Rattle.session_meaning.specs.FirstTimes.{stop_at, up_to_first, IsFirstOutcome}
 use Rattle.session_meaning.specs.declared.Verdict.TheVariants.{Ask}
 use Rattle.reply_lines.specs.declared.reply.Outcome.TheVariants.{Answer, Budget}
-use Rattle.plan_machine.specs.Shards.{Shard}
-use Rattle.plan_machine.specs.Sound.{IsFresh}
-use Rattle.plan_machine.specs.Settle.{sub_query, child_start, charge_of, journals_of, entries_in}
+use Rattle.plan_machine.specs.Settle.{sub_query, child_start, charge_of, journals_of}
 use Rattle.plan_machine.specs.inner.Settle.{IsStanding, IsOpen, IsAskedFor, Reaches, IsCoveredTo}
 use Rattle.plan_machine.proofs.Settle.{child-start, child-asked, begins-query, settles-closed, window-step}
 use Rattle.plan_machine.proofs.Underway.{contains-none}
 use Rattle.memo_shards.specs.KeptShards.{KeptShard}
 use Rattle.plan_core.specs.Parts.{shards_in}
-use Rattle.asked_cells.specs.Memos.{IsChargedMemo, AreFreeShards, entries_of, asked_at, at_time}
+use Rattle.asked_cells.specs.Memos.{AreFreeShards, entries_of, asked_at}
 use Rattle.asked_cells.specs.Asked.{HasAsked, AsksOn}
 use Rattle.asked_cells.specs.inner.Standings.{live, standing}
 use Rattle.asked_cells.proofs.Asked.{reaches}

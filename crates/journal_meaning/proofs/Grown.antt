@@ -21,7 +21,7 @@ use Rattle.journal_meaning.specs.Replay.{IsLegal}
 use Rattle.journal_meaning.specs.Answers.{IsCovered, ChildrenCovered, is_of, last_of, is_fill_of, fill_count, IsSpent}
 use Rattle.journal_meaning.specs.Sections.{of_batch}
 use Rattle.journal_meaning.specs.Grown.{IsSaid, IsFor, is_spent_of, refusals, GrowsBy, IsLonger, AreAdded}
-use Rattle.journal_meaning.specs.Counts.{count, is_booked, booked_count}
+use Rattle.journal_meaning.specs.Counts.{count, evaluated_point, is_booked, booked_count}
 use Rattle.journal_meaning.specs.inner.Grown.{IsForOther, IsHome, AreHome}
 use Rattle.journal_meaning.proofs.Same.{same_point-true}
 use Rattle.journal_meaning.proofs.Lists.{Each, each-append, each-imply}
@@ -456,6 +456,18 @@ other-refusals q (Spent r x held) h = ne_eqb r q h
 pub count-none : (test : Entry → Bool) (es : List Entry) → Each (λ e. test e ≡ false) es → count test es ≡ 0
 count-none test [] h = refl
 count-none test (e ∷ es) h = rw h.0 (count-none test es h.1)
+
+no-fill : (q : ℕ) (e : Entry) → evaluated_point e ≡ None → is_fill_of q e ≡ false
+no-fill q (Filled r p x) h = absurd (cc h)
+no-fill q (Told r p x) h = refl
+no-fill q (Claimed r p) h = refl
+no-fill q (Evicted signal start) h = refl
+no-fill q (Dropped r p) h = refl
+no-fill q (Spent r p held) h = refl
+
+-- an entry that evaluates no point is not counted
+pub fills-none : (q : ℕ) (e : Entry) → evaluated_point e ≡ None → fill_count (e ∷ []) q ≡ 0
+fills-none q e h = count-none (is_fill_of q) (e ∷ []) (no-fill q e h, tt)
 
 module _ (q : ℕ) (es : List Entry) (others : Each (IsForOther q) es) where
   pub others-last : (p : Point) → last_of es q p ≡ None

@@ -19,9 +19,10 @@ use Rattle.journal_meaning.specs.Sections.{of_batch}
 use Rattle.journal_meaning.specs.Grown.{IsSaid}
 use Rattle.journal_meaning.specs.inner.Grown.{IsRightEntry}
 use Rattle.journal_meaning.proofs.Lists.{Each, each-imply}
-use Rattle.journal_meaning.specs.inner.Index.{SaidCell, cell_said, cells_said, Covers, IsFound, place_of, StandsAt, IsCellIndex}
+use Rattle.journal_meaning.specs.Entries.{SaidCell, cell_said}
+use Rattle.journal_meaning.specs.inner.Index.{cells_said, Covers, IsFound, place_of, StandsAt, IsCellIndex}
 
-point-is : (a b : Point) → a.signal ≡ b.signal → a.time ≡ b.time → a ≡ b
+pub point-is : (a b : Point) → a.signal ≡ b.signal → a.time ≡ b.time → a ≡ b
 point-is a b e f = let at : ℕ → ℕ → Point = λ s t. record { signal = s; time = t } in ap₂ at e f
 
 -- the order of points

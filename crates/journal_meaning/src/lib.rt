@@ -10,6 +10,7 @@
 //!   says what it may name: points that a query of the batch needs, right cells, and at most a query's budget of claims.
 //! - `specs/Replay` folds the table over a journal, and says which journals of a batch and of a trim are legal. `specs/Sections`
 //!   joins them to the journal of a session.
+//! - `specs/Entries` is what a single entry says, which [`Entry::said`] answers. [`Entry::filled`] tells a fill from the others.
 //! - `specs/Counts` counts evaluations, those of different points, and repeated ones. `specs/Answers` says when a query is closed,
 //!   why one is refused for its budget, and what the answer of a query is.
 //! - `specs/Laws` holds theorems on every legal journal. They are the contracts of the functions below, which do nothing.
@@ -32,6 +33,11 @@
 //! `proofs/Examples` has more legal journals, and `proofs/Refusals` has illegal ones.
 #![tactic(auto)]
 
+ghost use Rattle.std.specs.Prelude.{◌≡◌, Some, None, IfSome, IfNone};
+ghost use Rattle.journal_meaning.specs.declared.Entry.TheVariants.{Filled};
+ghost use Rattle.journal_meaning.specs.Answers.{is_fill_of};
+ghost use Rattle.journal_meaning.specs.Counts.{evaluated_point};
+ghost use Rattle.journal_meaning.specs.Entries.{cell_said};
 ghost use Rattle.journal_meaning.specs.Laws.{CountsAdd, AgainAfterEviction, OneFillPerEviction, SpentNeedsMore, EnoughBudget};
 
 use valid_intervals::{Cell, Point};
@@ -51,6 +57,38 @@ pub enum Entry {
     Dropped { q: u32, p: Point },
     /// The query's budget was spent, so it was refused the point. It had `claims` claims, at most its budget.
     Spent { q: u32, p: Point, claims: u32 },
+}
+
+impl Entry {
+    /// The point for which the entry says a cell, and that cell.
+    pub fn said(&self) -> Option<(Point, Cell)>
+        ensures some { IfSome result (λ r. cell_said self.now ≡ Some
+            (record { point = r.0; cell = r.1 })) }
+        ensures none { IfNone result (cell_said self.now ≡ None) }
+    {
+        match self {
+            Entry::Told { p, cell, .. } | Entry::Filled { p, cell, .. } => Some((*p, *cell)),
+            _ => None,
+        }
+    }
+
+    /// The query, the point and the cell of a fill.
+    pub fn filled(&self) -> Option<(u32, Point, Cell)>
+        ensures some { IfSome result (λ r. self.now ≡ Filled r.0 r.1 r.2) }
+        ensures none { IfNone result (evaluated_point self.now ≡ None) }
+    {
+        match self {
+            Entry::Filled { q, p, cell } => Some((*q, *p, *cell)),
+            _ => None,
+        }
+    }
+
+    /// Whether the entry is a fill for the query with this number.
+    pub fn is_fill_of(&self, number: u32) -> bool
+        ensures { result ≡ is_fill_of number self.now }
+    {
+        matches!(self, Entry::Filled { q, .. } if *q == number)
+    }
 }
 
 /// The number of evaluations is that of different points plus that of repeated ones.

@@ -9,7 +9,7 @@ use Rattle.journal_meaning.specs.Replay.{IsLegalBatch}
 use Rattle.journal_meaning.specs.Sections.{Asks, Trims, Forces, SectionEntries, AreLegal, joined_entries}
 use Rattle.journal_meaning.specs.Laws.{OfCircuit}
 use Rattle.journal_meaning.proofs.Counted.{counts-add}
-use Rattle.journal_meaning.proofs.BetweenFills as kept
+use Rattle.journal_meaning.proofs.BetweenFills as between_fills
 use Rattle.query_lines.specs.declared.unit.Unit.{Unit as ScriptUnit}
 use Rattle.query_lines.specs.declared.unit.Unit.TheVariants as units
 use Rattle.session_meaning.specs.declared.Verdict.{Verdict}
@@ -27,7 +27,7 @@ use Rattle.session_meaning.proofs.Spread.{IsSpread, fills-home, fills-spread}
 frugal : (c : Circuit) → IsCircuit c → (shard : ℕ) (sections : List SectionEntries) → All (OfCircuit c) sections → AreLegal shard [] sections → IsFrugal (joined_entries shard sections)
 frugal c ok shard sections same legal = record {
   sum = counts-add (joined_entries shard sections);
-  evicted = λ q r p x y before between behind e. kept.again_after_eviction c ok shard sections same legal q r p x y before between behind e;
+  evicted = λ q r p x y before between behind e. between_fills.again_after_eviction c ok shard sections same legal q r p x y before between behind e;
 }
 
 asks-same : (a b : Batch) → Asks a ≡ Asks b → a ≡ b

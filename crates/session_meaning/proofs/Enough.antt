@@ -198,18 +198,18 @@ module _ (setup : Setup) (circuit : IsCircuit setup.design.circuit) (question : 
     -- of any kind
     enough-question : (held : List (List Entry)) (reply : QuestionReply) → IsOwnMemo setup.design question held → (asks : Asks) → question.asks ≡ asks
         → IsRightBy setup.design (of_batch lists) (of_batch held) question.window (question_verdict setup.design question) asks reply → IsAmpleBy setup question lists held asks reply
-    enough-question held (told.First outcome) kept (kinds.First value) is right = enough-first value is outcome right
-    enough-question held (told.Why outcome) kept (kinds.First value) is right = right
-    enough-question held (told.Stuck outcome) kept (kinds.First value) is right = right
-    enough-question held told.UnknownSite kept (kinds.First value) is right = right
-    enough-question held (told.First outcome) kept kinds.Why is right = right
-    enough-question held (told.Why outcome) kept kinds.Why is right = enough-why is outcome right
-    enough-question held (told.Stuck outcome) kept kinds.Why is right = right
-    enough-question held told.UnknownSite kept kinds.Why is right = right
-    enough-question held (told.First outcome) kept (kinds.Stuck named value) is right = no-first c (of_batch lists) (of_batch held) (question_verdict setup.design question) (site_of setup.design (kinds.Stuck named value)) outcome right
-    enough-question held (told.Why outcome) kept (kinds.Stuck named value) is right = no-why c (of_batch lists) (of_batch held) (question_verdict setup.design question) (site_of setup.design (kinds.Stuck named value)) outcome right
-    enough-question held (told.Stuck outcome) kept (kinds.Stuck named value) is right = enough-stuck held kept named value is (told.Stuck outcome) right
-    enough-question held told.UnknownSite kept (kinds.Stuck named value) is right = enough-stuck held kept named value is told.UnknownSite right
+    enough-question held (told.First outcome) own-memo (kinds.First value) is right = enough-first value is outcome right
+    enough-question held (told.Why outcome) own-memo (kinds.First value) is right = right
+    enough-question held (told.Stuck outcome) own-memo (kinds.First value) is right = right
+    enough-question held told.UnknownSite own-memo (kinds.First value) is right = right
+    enough-question held (told.First outcome) own-memo kinds.Why is right = right
+    enough-question held (told.Why outcome) own-memo kinds.Why is right = enough-why is outcome right
+    enough-question held (told.Stuck outcome) own-memo kinds.Why is right = right
+    enough-question held told.UnknownSite own-memo kinds.Why is right = right
+    enough-question held (told.First outcome) own-memo (kinds.Stuck named value) is right = no-first c (of_batch lists) (of_batch held) (question_verdict setup.design question) (site_of setup.design (kinds.Stuck named value)) outcome right
+    enough-question held (told.Why outcome) own-memo (kinds.Stuck named value) is right = no-why c (of_batch lists) (of_batch held) (question_verdict setup.design question) (site_of setup.design (kinds.Stuck named value)) outcome right
+    enough-question held (told.Stuck outcome) own-memo (kinds.Stuck named value) is right = enough-stuck held own-memo named value is (told.Stuck outcome) right
+    enough-question held told.UnknownSite own-memo (kinds.Stuck named value) is right = enough-stuck held own-memo named value is told.UnknownSite right
 
 -- so it is in each unit of a session
 unit-ample : (setup : Setup) → IsCircuit setup.design.circuit → (now next : Course) (unit : ScriptUnit) (served : IsServed setup now unit next) → HasOwnLines unit → IsAmpleUnit setup now next unit served

@@ -67,7 +67,8 @@ module _ (d : Joined) where
   item-few line None reply = omega arith
   item-few line (Some window) reply = wire-few d.circuit window (verdict d line window) reply
 
-  wires-few : (items : List Item) (answers : List Reply) → length (wires_of d items answers) ≤ length items
+  -- a batch has as many wires as items at most
+  pub wires-few : (items : List Item) (answers : List Reply) → length (wires_of d items answers) ≤ length items
   wires-few [] answers = omega arith
   wires-few (item ∷ items) [] = omega arith
   wires-few (item ∷ items) (reply ∷ answers) =

@@ -29,7 +29,8 @@ use Rattle.journal_text.specs.Written.{IsPoint, IsEntry}
 
 -- ---- signals
 
-evaluable-low : (c : Circuit) (s t : ℕ) → IsEvaluable c s t → s < length c.drivers
+-- what is evaluable is a signal
+pub evaluable-low : (c : Circuit) (s t : ℕ) → IsEvaluable c s t → s < length c.drivers
 evaluable-low c s t h = elim (cases_lt s (length c.drivers)) [
   | inl l ↦ l
   | inr l ↦ absurd (subst (HasChildren t) (get_or_past c.drivers s (Input []) l) h)

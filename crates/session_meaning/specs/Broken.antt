@@ -52,7 +52,7 @@ pub record IsBroken (setup : Setup) (done later : List ScriptUnit) (out journal 
   pub served : Session setup done now
   pub replied : IsPrefix now.out out
   pub recorded : IsPrefix (journal_of setup now) journal
-  pub kept : (more : List Made) × (dumps ≡ now.dumps ++ more)
+  pub dumped : (more : List Made) × (dumps ≡ now.dumps ++ more)
   pub begun : IsFirstBegun setup now later out journal dumps
 
 -- The units `done` are whole, and all replies to the first one behind them stand. Of its sections at most a beginning was written.
@@ -79,7 +79,7 @@ pub record IsBrokenInDump (setup : Setup) (done later : List ScriptUnit) (out jo
   pub served : Session setup done now
   pub out_is : out ≡ now.out
   pub journal_is : journal ≡ journal_of setup now
-  pub kept : (more : List Made) × (dumps ≡ now.dumps ++ more)
+  pub dumped : (more : List Made) × (dumps ≡ now.dumps ++ more)
   pub begun : IsBegun setup now (Vcd file) out journal dumps
 
 -- Before the head of the journal is whole: nothing was replied, and no dump was made.

@@ -1,8 +1,8 @@
 -- What strands of the memo of its own ask for, and what is free of that.
-use Rattle.std.proofs.Common.{◌≡◌, ℕ, zero, suc, ◌<◌, ◌≤◌, List, [], ◌∷◌, length, get_or, Some, sym, subst, arith}
+use Rattle.std.proofs.Common.{◌≡◌, ◌<◌, ◌≤◌, [], ◌∷◌, length, Some, sym, subst, arith}
 use Rattle.std.proofs.Math.ListN.{length-set}
 use Rattle.valid_intervals.specs.declared.Point.{Point}
-use Rattle.circuit_meaning.specs.Circuit.{Circuit, IsCircuit, Driver, Input}
+use Rattle.circuit_meaning.specs.Circuit.{Circuit, IsCircuit, Input}
 use Rattle.circuit_meaning.specs.Cells.{cell_at}
 use Rattle.circuit_meaning.specs.Forced.{IsFree}
 use Rattle.circuit_meaning.specs.Need.{HasChildren, IsEvaluable, IsNeeded}
@@ -14,19 +14,10 @@ use Rattle.batch_meaning.specs.Lawful.{IsLawful}
 use Rattle.strand_meaning.specs.declared.Next.TheVariants.{Ask}
 use Rattle.strand_meaning.specs.Strands.{Strand, next, IsStrand}
 use Rattle.strand_meaning.proofs.Wanted.{asks-needed}
+use Rattle.session_meaning.proofs.Narrow.{evaluable-low}
 use Rattle.session_meaning.specs.StuckSignals.{stuck_circuit, held_batch}
 use Rattle.plan_machine.proofs.Underway.{contains-one}
 use Rattle.stuck_faults.proofs.Held.{window-within, held-lawful}
-
--- what is evaluable is a signal
-pub evaluable-low : (c : Circuit) (s t : ℕ) → IsEvaluable c s t → s < length c.drivers
-evaluable-low c s t h = low c.drivers s h
-  where
-    low : (ds : List Driver) (s : ℕ) → HasChildren t (get_or ds s (Input [])) → s < length ds
-    low [] zero h = absurd h
-    low [] (suc s) h = absurd h
-    low (d ∷ ds) zero h = omega arith
-    low (d ∷ ds) (suc s) h = let k = low ds s h in omega arith
 
 module _ (b : Batch) (lawful : IsLawful b) (site : Site) (q : Query) (queries : b.queries ≡ q ∷ []) where
   abbrev d : Circuit

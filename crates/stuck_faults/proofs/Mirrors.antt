@@ -1,5 +1,5 @@
 -- The entries of the memo of its own, and what was heard from the session's memo, as one list.
-use Rattle.std.proofs.Common.{◌≡◌, ◌⊎◌, ℕ, ◌+◌, List, [], ◌∷◌, ◌++◌, All, ap₂, subst, arith, inl, inr}
+use Rattle.std.proofs.Common.{◌≡◌, ◌⊎◌, ℕ, ◌+◌, List, [], ◌∷◌, ◌++◌, All, subst, arith, inl, inr}
 use Rattle.std.proofs.lemmas.List.Elements.{Contains-append_left, Contains-append_right, Contains-append_cases, All-weaker}
 use Rattle.valid_intervals.specs.declared.Cell.{Cell}
 use Rattle.valid_intervals.specs.declared.Point.{Point}
@@ -12,14 +12,11 @@ use Rattle.journal_meaning.specs.declared.Entry.TheVariants.{Told, Claimed, Fill
 use Rattle.journal_meaning.specs.Answers.{Says, IsCovered, is_fill_of}
 use Rattle.journal_meaning.specs.Grown.{IsSaid}
 use Rattle.journal_meaning.proofs.Grown.{count-append}
+use Rattle.journal_meaning.proofs.Index.{point-is}
 use Rattle.why_proofs.proofs.Sound.{covers-from}
 use Rattle.plan_machine.proofs.Underway.{contains-one}
 use Rattle.session_meaning.specs.StuckSignals.{stuck_circuit, IsCoveredBy}
 use Rattle.stuck_faults.specs.inner.Both.{IsHeardThere, Mirrors, AreKept}
-
--- points are equal where both parts are
-pub same-point : (x p : Point) → x.signal ≡ p.signal → x.time ≡ p.time → x ≡ p
-same-point x p s t = ap₂ (λ (a b : ℕ). record { signal = a; time = b }) s t
 
 module _ (c : Circuit) (site : Site) where
   -- where entries are kept, what was heard stays so
@@ -39,7 +36,7 @@ module _ (c : Circuit) (site : Site) where
       let high = k.inside.high in
       let start = h.2 in
       let stop = h.3 in
-      let e : y ≡ p = same-point y p k.signal (omega arith) in
+      let e : y ≡ p = point-is y p k.signal (omega arith) in
       (subst (λ (z : Point). IsFree c site.signal z.signal) e h.0, subst (IsSaid es) e h.1)
   heard-says es p (Claimed q y) h says = absurd h
   heard-says es p (Filled q y x) h says = absurd h

@@ -233,10 +233,6 @@ pub ok-of : {A E : Type 0} (r : Result A E) (P : Type 0) → P → OnOk r P
 ok-of (Ok x) P p = p
 ok-of (Err e) P p = tt
 
-pub if-ok : {A E : Type 0} (r : Result A E) (P Q : A → Type 0) → ((x : A) → P x → Q x) → IfOk r P → IfOk r Q
-if-ok (Ok x) P Q f p = f x p
-if-ok (Err e) P Q f p = tt
-
 pub session-kept : (ms new : List KeptShard) → new ≡ ms → AreKept (entries_of ms) (entries_of new)
 session-kept ms new is e h = subst (λ z. Contains (entries_of z) e) (sym is) h
 

@@ -1,8 +1,11 @@
 -- The points that queries filled.
-use Rattle.std.proofs.Common.{◌≡◌, ℕ, suc, ◌++◌, nat_eq, Bool, true, false, cond, List, [], ◌∷◌, length, filter, refl, ap}
+use Rattle.std.proofs.Common.{◌≡◌, ℕ, suc, ◌++◌, nat_eq, Bool, true, false, cond, List, [], ◌∷◌, length, filter, None, refl, ap, ◌∙◌}
+use Rattle.std.proofs.lemmas.List.{nil_from_length}
 use Rattle.journal_meaning.specs.declared.Entry.{Entry}
 use Rattle.journal_meaning.specs.declared.Entry.TheVariants.{Told, Claimed, Filled, Evicted, Dropped, Spent}
 use Rattle.journal_meaning.specs.Answers.{is_fill_of, fill_count}
+use Rattle.journal_meaning.specs.Counts.{evaluated_point}
+use Rattle.journal_meaning.proofs.Grown.{fills-none}
 use Rattle.plan_machine.specs.Settling.{fills_of}
 
 -- the points that a query filled, of two lists of entries
@@ -32,3 +35,7 @@ fills-count (Filled r p x ∷ xs) q = by (nat_eq r q) (fills-count xs q)
 fills-count (Evicted s t ∷ xs) q = fills-count xs q
 fills-count (Dropped r p ∷ xs) q = fills-count xs q
 fills-count (Spent r p n ∷ xs) q = fills-count xs q
+
+-- so an entry that evaluates no point adds none
+pub none-filled : (e : Entry) (q : ℕ) → evaluated_point e ≡ None → fills_of (e ∷ []) q ≡ []
+none-filled e q h = nil_from_length (fills_of (e ∷ []) q) (fills-count (e ∷ []) q ∙ fills-none q e h)

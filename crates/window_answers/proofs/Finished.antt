@@ -19,12 +19,12 @@ use Rattle.window_answers.specs.Settlement.{AsksTwice, HasSettled}
 pub has-settled : (b : Batch) → IsLawful b → (opening : ℕ → List SignalCell) (handed begun : List KeptShard) → AreShards b opening (shards_in handed) → AreFreed (shards_in handed) (shards_in begun)
     → (new : List KeptShard) (outcomes : List (Outcome (List Run))) → AreFreeShards b opening new → IsWalking b (entries_of begun) (shards_in begun) (shards_in new) b.queries outcomes [] []
     → AsksTwice b opening (shards_in handed) (shards_in new) (refused_of outcomes) → HasSettled b opening handed new outcomes
-has-settled b lawful opening handed begun are f new outcomes kept w asks =
+has-settled b lawful opening handed begun are f new outcomes free w asks =
     let r = all-freed b lawful opening (shards_in handed) (shards_in begun) are f in
     record {
-      numbers = kept.numbers;
+      numbers = free.numbers;
       settled = record {
-        fresh = kept.fresh;
+        fresh = free.fresh;
         added = r.added ++ w.added;
         journals = added-more (journals_of (shards_in handed)) r.added (journals_of (shards_in begun)) w.added (journals_of (shards_in new)) r.journals w.journals;
         queries = all-before b lawful opening b.circuit (entries_of handed) r.added (entries_of begun) (entries_of new) r.journals.together r.drops b.queries (refused_of outcomes) w.settled;

@@ -1,5 +1,5 @@
 -- The pins of a filled point, one after another.
-use Rattle.std.proofs.Common.{◌≡◌, ℕ, zero, suc, ◌<◌, ◌≤◌, List, [], ◌∷◌, get_or, Contains, Option, Some, None, refl, sym, subst, arith}
+use Rattle.std.proofs.Common.{◌≡◌, ℕ, ◌<◌, ◌≤◌, List, get_or, Contains, Option, Some, None, refl, sym, subst}
 use Rattle.valid_intervals.specs.declared.Point.{Point}
 use Rattle.circuit_meaning.specs.Circuit.{Circuit}
 use Rattle.circuit_meaning.specs.Need.{IsEvaluable, children}
@@ -17,14 +17,7 @@ use Rattle.plan_machine.proofs.Steps.{wanted-time}
 use Rattle.plan_machine.proofs.Settle.{child-start, child-needed, child-asked, root-asked}
 use Rattle.pin_walks.specs.PinWalks.{IsPoint, looked_at}
 use Rattle.asked_cells.specs.inner.Sources.{IsSourceCovered}
-use Rattle.asked_cells.proofs.Pins.{needed-evaluable, evaluable-signal}
-
-somes-has : (os : List (Option Point)) (n : ℕ) (x : Point) → get_or os n None ≡ Some x → Contains (somes os) x
-somes-has [] n x e = absurd (cc e)
-somes-has (None ∷ os) zero x e = absurd (cc e)
-somes-has (Some y ∷ os) zero x e = let same : y ≡ x = cc e in subst (λ z. Contains (y ∷ somes os) z) same (0, omega arith, refl)
-somes-has (None ∷ os) (suc n) x e = somes-has os n x e
-somes-has (Some y ∷ os) (suc n) x e = let m = somes-has os n x e in (suc m.0, (let l = m.1 in omega arith), m.2)
+use Rattle.asked_cells.proofs.Pins.{somes-has, needed-evaluable, evaluable-signal}
 
 -- a pin that is looked at reads a child
 pub source-child : (c : Circuit) (p x : Point) (n : ℕ) → get_or (looked_at c p) n None ≡ Some x → Contains (children c p.signal p.time) x

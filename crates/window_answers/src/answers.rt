@@ -72,8 +72,8 @@ fn feed_one<B: BatchName>(
     requires known { Contains B.batch.queries q }
     requires needed { All (IsNeededBy B.batch q) points.now }
     requires counts { length points.now ≡ fill_count (entries_of memo.old) q.number }
-    requires kept { AreFreeShards B.batch B.opening memo.old }
-    ensures kept { OnOk result (AreFreeShards B.batch B.opening memo.new) }
+    requires free { AreFreeShards B.batch B.opening memo.old }
+    ensures free { OnOk result (AreFreeShards B.batch B.opening memo.new) }
     ensures feeds { (start : List EntryRecord)
         → IsOpen B.batch.circuit q start (entries_of memo.old)
         → points.now ≡ fills_of start q.number
@@ -99,8 +99,8 @@ fn visit_all<B: BatchName>(
     requires site { B.batch.site ≡ None }
     requires design { design.now.circuit ≡ B.batch.circuit }
     requires queries { queries.now ≡ B.batch.queries }
-    requires kept { AreFreeShards B.batch B.opening memo.old }
-    ensures kept { OnOk result (AreFreeShards B.batch B.opening memo.new) }
+    requires free { AreFreeShards B.batch B.opening memo.old }
+    ensures free { OnOk result (AreFreeShards B.batch B.opening memo.new) }
     ensures fed { IfOk result (λ fed. IsFeeding B.batch (entries_of memo.old) (shards_in memo.old)
         (shards_in memo.new) B.batch.queries fed.items []) }
     ensures asks { let qs = queries.now in
@@ -140,7 +140,7 @@ fn count_all<B: BatchName>(
 ) -> Result<Vec<Fed>, OutOfMemory>
     requires lawful { IsLawful B.batch }
     requires queries { queries.now ≡ B.batch.queries }
-    requires kept { AreFreeShards B.batch B.opening memo.now }
+    requires free { AreFreeShards B.batch B.opening memo.now }
     requires heard { AllChildrenCovered B.batch.circuit (entries_of memo.now) }
     requires fills { ForSome fills (λ fills. HaveCounted (entries_of memo.now) fills.items) }
     ensures fed { IfOk result (λ fed. IsFeeding B.batch (entries_of memo.now) (shards_in memo.now)
@@ -175,10 +175,10 @@ pub fn feed_all<B: BatchName>(
     requires site { B.batch.site ≡ None }
     requires design { design.now.circuit ≡ B.batch.circuit }
     requires queries { queries.now ≡ B.batch.queries }
-    requires kept { AreFreeShards B.batch B.opening memo.old }
+    requires free { AreFreeShards B.batch B.opening memo.old }
     requires heard { heard ≡ true → AllChildrenCovered B.batch.circuit (entries_of memo.old) }
     requires fills { ForSome fills (λ fills. HaveCounted (entries_of memo.old) fills.items) }
-    ensures kept { OnOk result (AreFreeShards B.batch B.opening memo.new) }
+    ensures free { OnOk result (AreFreeShards B.batch B.opening memo.new) }
     ensures fed { IfOk result (λ fed. IsFeeding B.batch (entries_of memo.old) (shards_in memo.old)
         (shards_in memo.new) B.batch.queries fed.items []) }
     ensures asks { let qs = queries.now in
@@ -205,8 +205,8 @@ fn answer_one<B: BatchName>(
     requires design { design.now.circuit ≡ B.batch.circuit }
     requires known { Contains B.batch.queries q }
     requires counts { fed.charge ≡ charge_of (entries_of memo.old) q }
-    requires kept { AreFreeShards B.batch B.opening memo.old }
-    ensures kept { OnOk result (AreFreeShards B.batch B.opening memo.new) }
+    requires free { AreFreeShards B.batch B.opening memo.old }
+    ensures free { OnOk result (AreFreeShards B.batch B.opening memo.new) }
     ensures outcome { IfOk result (IsOutcomeFor B.batch.circuit q) }
     ensures settles { (start : List EntryRecord)
         → IsFedWith B.batch.circuit q start (entries_of memo.old) fed
@@ -238,11 +238,11 @@ pub fn answer_all<B: BatchName>(
     requires design { design.now.circuit ≡ B.batch.circuit }
     requires queries { queries.now ≡ B.batch.queries }
     requires count { length fed.now ≡ length queries.now }
-    requires kept { AreFreeShards B.batch B.opening memo.old }
+    requires free { AreFreeShards B.batch B.opening memo.old }
     requires fed { (start : List EntryRecord) ×
         ((first : List ShardRecord) × IsWalking B.batch start first (shards_in memo.old) [] []
         queries.now fed.now) }
-    ensures kept { OnOk result (AreFreeShards B.batch B.opening memo.new) }
+    ensures free { OnOk result (AreFreeShards B.batch B.opening memo.new) }
     ensures settled { (start : List EntryRecord) (first : List ShardRecord)
         → IsWalking B.batch start first (shards_in memo.old) [] [] queries.now fed.now
         → IfOk result (λ outcomes. IsWalking B.batch start first (shards_in memo.new) B.batch.queries

@@ -54,13 +54,9 @@ impl FilledPoints {
         ensures { OnOk result ((n : ℕ) → points_in (get nat_cmp self.new.by_query n) ≡ points_in
             (get nat_cmp self.old.by_query n) ++ fills_of (entry.now ∷ []) n) }
     {
-        match entry {
-            Entry::Filled { q, p, .. } => self.push(*q, *p),
-            Entry::Told { .. } => Ok(()),
-            Entry::Claimed { .. } => Ok(()),
-            Entry::Evicted { .. } => Ok(()),
-            Entry::Dropped { .. } => Ok(()),
-            Entry::Spent { .. } => Ok(()),
+        match entry.filled() {
+            Some((q, p, _)) => self.push(q, p),
+            None => Ok(()),
         }
     }
 

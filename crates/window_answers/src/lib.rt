@@ -50,7 +50,6 @@ mod strands;
 mod verdicts;
 mod visits;
 
-pub use session_meaning::Verdict;
 pub use settlement::{Settled, settle};
 pub use strands::strands_of;
 pub use verdicts::{verdict_of, verdicts_of};

@@ -52,7 +52,7 @@ fn begin_settlement<B: BatchName>(
     ensures shards { IfOk result (λ _. AreShards B.batch B.opening (shards_in shards.items)) }
     ensures freed { IfOk result (λ begun. AreFreed (shards_in shards.items)
         (shards_in begun.memo)) }
-    ensures kept { IfOk result (λ begun. AreFreeShards B.batch B.opening begun.memo) }
+    ensures free { IfOk result (λ begun. AreFreeShards B.batch B.opening begun.memo) }
     ensures fills { IfOk result (λ begun. IfSome begun.fills
         (λ fills. HaveCounted (entries_of shards.items) fills.items)) }
 {

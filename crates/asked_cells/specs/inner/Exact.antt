@@ -3,7 +3,7 @@ use Rattle.std.specs.Prelude.{◌≡◌, List, Contains, Some}
 use Rattle.valid_intervals.specs.declared.Cell.{Cell}
 use Rattle.valid_intervals.specs.declared.Point.{Point}
 use Rattle.journal_meaning.specs.declared.Entry.{Entry}
-use Rattle.journal_meaning.specs.inner.Index.{cell_said}
+use Rattle.journal_meaning.specs.Entries.{cell_said}
 
 -- one of the entries was recorded for the point, and says this cell
 abbrev pub IsSaidFor : List Entry → Point → Cell → Type 0

@@ -3,7 +3,7 @@ use Rattle.std.specs.Prelude.{◌≡◌, ◌≢◌, ℕ, zero, suc, ◌+◌, ◌
 use Rattle.std.specs.List.{AllByRecursion}
 use Rattle.valid_intervals.specs.declared.Point.{Point}
 use Rattle.journal_meaning.specs.declared.Entry.{Entry}
-use Rattle.journal_meaning.specs.inner.Index.{SaidCell, cell_said}
+use Rattle.journal_meaning.specs.Entries.{SaidCell, cell_said}
 use Rattle.asked_cells.specs.declared.places.Noted.{Noted}
 use Rattle.asked_cells.specs.Wanted.{Marked, is_wanted}
 

@@ -1,25 +1,12 @@
 -- The cells that entries say, and an index of them.
-use Rattle.std.specs.Prelude.{◌≡◌, ◌≤◌, List, All, Contains, filter_map, Option, Some, None}
+use Rattle.std.specs.Prelude.{◌≡◌, ◌≤◌, List, All, Contains, filter_map, Option, Some}
 use Rattle.valid_intervals.specs.Spans.{IsIn}
 use Rattle.valid_intervals.specs.declared.Cell.{Cell}
 use Rattle.valid_intervals.specs.declared.Point.{Point}
 use Rattle.circuit_meaning.specs.Circuit.{Circuit}
 use Rattle.journal_meaning.specs.declared.Entry.{Entry}
-use Rattle.journal_meaning.specs.declared.Entry.TheVariants.{Told, Claimed, Filled, Evicted, Dropped, Spent}
 use Rattle.circuit_meaning.specs.Cells.{cell_at}
-
--- a point with the cell that an entry says there
-pub record SaidCell : Type 0 where
-  pub point : Point
-  pub cell : Cell
-
-abbrev pub cell_said : Entry → Option SaidCell
-cell_said (Told q p x) = Some (record { point = p; cell = x })
-cell_said (Claimed q p) = None
-cell_said (Filled q p x) = Some (record { point = p; cell = x })
-cell_said (Evicted signal start) = None
-cell_said (Dropped q p) = None
-cell_said (Spent q p claims) = None
+use Rattle.journal_meaning.specs.Entries.{SaidCell, cell_said}
 
 -- what the entries say
 abbrev pub cells_said : List Entry → List SaidCell

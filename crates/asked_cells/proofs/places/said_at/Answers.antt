@@ -1,6 +1,6 @@
-use Rattle.std.proofs.Common.{◌≢◌, ◌∙◌, Some, ap}
+use Rattle.std.proofs.Common.{◌∙◌, Some, ap}
 use Rattle.asked_cells.specs.inner.Places.{point_at}
-use Rattle.asked_cells.proofs.Chains.{point-past, point-said, point-unsaid, none-lacks, other-lacks, none-if, same-point, other-point}
+use Rattle.asked_cells.proofs.Chains.{point-past, point-said, point-unsaid, none-lacks, other-lacks, same-point, other-point}
 use Rattle.asked_cells.proofs.places.said_at.Goals as goal
 
 pub returns-then-place-journal-clause-none : goal.returns-then-place-journal-clause-none
@@ -10,7 +10,7 @@ pub returns-in_err-point-clause-none : goal.returns-in_err-point-clause-none
 returns-in_err-point-clause-none c =
     let journal = c.args.journal.now in
     let place = c.args.place in
-    none-if c.from_residual.result (point_at journal place ≢ _)
+    rw c.from_residual.ensures
     (none-lacks (point_at journal place) c.args.p (point-unsaid journal place c.index-journal-place.result c.if-place-journal.false c.index-journal-place.is c.in_err-point.ensures.none))
 
 pub returns-then-eq-clause-some : goal.returns-then-eq-clause-some

@@ -1,7 +1,7 @@
 use Rattle.std.proofs.Common.{◌≡◌, ◌≢◌, ◌+◌, ◌-◌, get_or, Some, None, subst, sym, ap, refl, ◌∙◌, arith}
 use Rattle.asked_cells.specs.declared.places.Noted.{Noted}
-use Rattle.asked_cells.specs.inner.Places.{point_at, points_of, numbers_before, LacksPoint}
-use Rattle.asked_cells.proofs.Chains.{sought-end, sought-over, sought-found, sought-next, noted-point, noted-before, past-point, past-before, none-lacks, none-if}
+use Rattle.asked_cells.specs.inner.Places.{point_at, points_of, numbers_before}
+use Rattle.asked_cells.proofs.Chains.{sought-end, sought-over, sought-found, sought-next, noted-point, noted-before, past-point, past-before, none-lacks}
 use Rattle.asked_cells.proofs.places.seek.Goals as goal
 
 pub returns-then-number-eq0-clause-none : goal.returns-then-number-eq0-clause-none
@@ -18,7 +18,7 @@ returns-in_err-entry-clause-none c = λ places h.
     let high = c.in_err-entry.ensures.lookup.3 in
     let next = sought-next (points_of journal noted) c.args.p (numbers_before noted) n places (32 - step) (c.loop-step.invariant places h) (n - 1) (omega (arith, more)) 0 (32 - (step + 1))
     (none-lacks (get_or (points_of journal noted) (n - 1) None) c.args.p (past-point journal noted (n - 1) high)) (sym (past-before journal noted (n - 1) high)) (omega (arith, low)) in
-    none-if c.from_residual.result (LacksPoint (points_of journal noted) c.args.p places) (sought-end (points_of journal noted) c.args.p (numbers_before noted) 0 places (32 - (step + 1)) next refl)
+    rw c.from_residual.ensures (sought-end (points_of journal noted) c.args.p (numbers_before noted) 0 places (32 - (step + 1)) next refl)
 
 pub returns-in-Some-clause-some : goal.returns-in-Some-clause-some
 returns-in-Some-clause-some c = λ places h.

@@ -1,6 +1,6 @@
+use Rattle.std.proofs.lemmas.Result.{IfOk-weaker}
 use Rattle.plan_core.specs.Parts.{shards_in}
 use Rattle.asked_cells.proofs.Unused.{unused-freed}
-use Rattle.stuck_faults.proofs.Steps.{if-ok}
 use Rattle.stuck_faults.proofs.wave.stuck_wave.Goals as goal
 
 pub answer-requires-clause-unused : goal.answer-requires-clause-unused
@@ -9,4 +9,4 @@ answer-requires-clause-unused g c =
 
 pub returns-clause-asks : goal.returns-clause-asks
 returns-clause-asks g c =
-    if-ok c.answer.result _ _ (λ done asks. record { freed = shards_in c.in_ok-session.session; frees = c.in_ok-session.ensures.freed; asks = asks }) c.answer.ensures.asks
+    IfOk-weaker c.answer.result _ _ (λ done asks. record { freed = shards_in c.in_ok-session.session; frees = c.in_ok-session.ensures.freed; asks = asks }) c.answer.ensures.asks

@@ -10,7 +10,7 @@ use Rattle.window_answers.proofs.answers.answer_all.Goals as goal
 
 pub loop-k-init : goal.loop-k-init
 loop-k-init g c = record {
-  kept = c.requires.kept;
+  free = c.requires.free;
   walked = λ start first h. subst (λ (rs : List (Outcome (List Run))). IsWalking g.B.BatchName.batch start first (shards_in c.args.memo.now) [] rs c.args.queries.now c.args.fed.now) (sym c.new-outcomes.ensures.items) h;
   asks = let ss = shards_in c.args.memo.now in subst (λ (rs : List (Outcome (List Run))). WalksTo g.B.BatchName.batch g.B.BatchName.opening c.args.queries.now ss c.args.fed.now ss 0 rs) (sym c.new-outcomes.ensures.items) refl;
 }
@@ -37,7 +37,7 @@ loop-k-preserved g c =
     let high : k < length fs = let t = c.loop-k-test.true in omega arith in
     let r = c.in_ok-outcome.outcome in
     record {
-      kept = c.in_ok-outcome.ensures.kept;
+      free = c.in_ok-outcome.ensures.free;
       walked = λ start first h.
           let was = c.loop-k.invariant.walked start first h in
           let f = walk-fed b c.requires.lawful start first qs c.requires.queries k c.loop-k-test.true _ fs high _ (shards_in now) c.loop-k.outcomes.items was in

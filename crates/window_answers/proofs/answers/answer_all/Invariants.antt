@@ -9,7 +9,7 @@ use Rattle.window_answers.proofs.answers.answer_all.Given as goal
 
 abbrev pub invariant-loop-k : goal.invariant-loop-k
 invariant-loop-k g l = record {
-  kept : AreFreeShards g.B.BatchName.batch g.B.BatchName.opening l.memo;
+  free : AreFreeShards g.B.BatchName.batch g.B.BatchName.opening l.memo;
   walked : (start : List Entry) (first : List Shard) → IsWalking g.B.BatchName.batch start first (shards_in l.initial.memo) [] [] l.queries l.fed
       → IsWalking g.B.BatchName.batch start first (shards_in l.memo) (take l.k l.queries) l.outcomes.items (drop l.k l.queries) (drop l.k l.fed);
   asks : WalksTo g.B.BatchName.batch g.B.BatchName.opening l.queries (shards_in l.initial.memo) l.fed (shards_in l.memo) l.k l.outcomes.items;

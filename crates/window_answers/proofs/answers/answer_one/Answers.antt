@@ -8,7 +8,7 @@ use Rattle.window_answers.proofs.Phases.{walks-refused, walk-begins, walks}
 use Rattle.window_answers.proofs.answers.answer_one.Goals as goal
 
 pub returns-then-fed-clause-settles : goal.returns-then-fed-clause-settles
-returns-then-fed-clause-settles g c = λ start k. walks-refused g.B.BatchName.batch c.requires.lawful g.B.BatchName.opening c.args.q c.requires.known start c.args.memo.now c.args.fed c.requires.kept.fresh c.if-fed.true k
+returns-then-fed-clause-settles g c = λ start k. walks-refused g.B.BatchName.batch c.requires.lawful g.B.BatchName.opening c.args.q c.requires.known start c.args.memo.now c.args.fed c.requires.free.fresh c.if-fed.true k
 
 pub returns-in-Some-clause-settles : goal.returns-in-Some-clause-settles
 returns-in-Some-clause-settles g c = λ start k.
@@ -17,9 +17,9 @@ returns-in-Some-clause-settles g c = λ start k.
     let q = c.args.q in
     let ms = c.args.memo.now in
     let new = c.settle_window.new.memo in
-    let s = walk-begins b c.requires.lawful opening q c.requires.known start ms c.args.fed c.requires.kept.fresh c.if-fed.false k in
+    let s = walk-begins b c.requires.lawful opening q c.requires.known start ms c.args.fed c.requires.free.fresh c.if-fed.false k in
     let e = ap is_missing c.in-Some.is in
-    walks b c.requires.lawful opening q c.requires.known start ms c.args.fed c.requires.kept.fresh c.if-fed.false k new false
+    walks b c.requires.lawful opening q c.requires.known start ms c.args.fed c.requires.free.fresh c.if-fed.false k new false
     (subst (λ r. Advances b opening q start (shards_in ms) (live ms) (standing new r)) e (c.in_ok-runs.ensures.advances start (shards_in ms) s))
     (subst (λ r. IsCoveredTo b.circuit q (standing new r) q.to) e (c.in_ok-runs.ensures.covered start (shards_in ms) s))
 
@@ -30,9 +30,9 @@ returns-in-None-clause-settles g c = λ start k.
     let q = c.args.q in
     let ms = c.args.memo.now in
     let new = c.settle_window.new.memo in
-    let s = walk-begins b c.requires.lawful opening q c.requires.known start ms c.args.fed c.requires.kept.fresh c.if-fed.false k in
+    let s = walk-begins b c.requires.lawful opening q c.requires.known start ms c.args.fed c.requires.free.fresh c.if-fed.false k in
     let e = ap is_missing c.in-None.is in
-    walks b c.requires.lawful opening q c.requires.known start ms c.args.fed c.requires.kept.fresh c.if-fed.false k new true
+    walks b c.requires.lawful opening q c.requires.known start ms c.args.fed c.requires.free.fresh c.if-fed.false k new true
     (subst (λ r. Advances b opening q start (shards_in ms) (live ms) (standing new r)) e (c.in_ok-runs.ensures.advances start (shards_in ms) s))
     (subst (λ r. IsCoveredTo b.circuit q (standing new r) q.to) e (c.in_ok-runs.ensures.covered start (shards_in ms) s))
 

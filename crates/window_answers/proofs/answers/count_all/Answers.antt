@@ -45,7 +45,7 @@ loop-q-preserved g c =
     let fills : c.filled_by.result ≡ min (fill_count (entries_of ms) q.number) 4294967295 = c.filled_by.ensures ∙ known q.number in
     let counts : f.charge ≡ charge_of (entries_of ms) q = c.charge_counted-charge.ensures (fill_count (entries_of ms) q.number) fills in
     let o = fed-open b c.requires.lawful (entries_of ms) ss qs c.requires.queries i low no_query ss c.loop-q.fed.items c.loop-q.invariant.fed in
-    let k = feeds-heard b c.requires.lawful opening q (fed-known b c.requires.lawful (entries_of ms) ss qs c.requires.queries i low no_query) ms f c.requires.kept.fresh c.requires.heard refl counts o in
+    let k = feeds-heard b c.requires.lawful opening q (fed-known b c.requires.lawful (entries_of ms) ss qs c.requires.queries i low no_query) ms f c.requires.free.fresh c.requires.heard refl counts o in
     record {
       fed = subst (λ (fs : List Fed). IsFeeding b (entries_of ms) ss ss (take (i + 1) qs) fs (drop (i + 1) qs)) (sym c.in_ok-push.ensures.items)
           (fed-next b c.requires.lawful (entries_of ms) ss qs c.requires.queries i low no_query ss ss c.loop-q.fed.items f c.loop-q.invariant.fed k);

@@ -14,7 +14,7 @@ loop-q-init g c =
     let b = g.B.BatchName.batch in
     let ms = c.args.memo.now in
     record {
-      kept = c.requires.kept;
+      free = c.requires.free;
       fed = subst (λ (fs : List Fed). IsFeeding b (entries_of ms) (shards_in ms) (shards_in ms) [] fs c.args.queries.now) (sym c.new-fed.ensures.items) (fed-first b (shards_in ms) c.args.queries.now);
       asks = subst (λ (fs : List Fed). VisitsTo b g.B.BatchName.opening c.args.queries.now (shards_in ms) (shards_in ms) 0 fs) (sym c.new-fed.ensures.items) refl;
     }
@@ -30,7 +30,7 @@ feed_one-requires-clause-needed g c =
     let i = c.loop-q.q-index in
     let q = get_or qs i no_query in
     let points : c.of.result.now ≡ fills_of (entries_of first) q.number = c.of.ensures ∙ c.in_ok-gathered.ensures q.number ∙ ap (λ l. fills_of (entries_of l) q.number) c.shards.ensures in
-    fed-needed b c.requires.lawful (entries_of first) (shards_in first) qs c.requires.queries i c.loop-q-test.true no_query c.of.result.now points g.B.BatchName.opening c.requires.kept.fresh refl
+    fed-needed b c.requires.lawful (entries_of first) (shards_in first) qs c.requires.queries i c.loop-q-test.true no_query c.of.result.now points g.B.BatchName.opening c.requires.free.fresh refl
 
 pub feed_one-requires-clause-counts : goal.feed_one-requires-clause-counts
 feed_one-requires-clause-counts g c =
@@ -56,7 +56,7 @@ loop-q-preserved g c =
     let o = fed-open b c.requires.lawful (entries_of first) (shards_in first) qs c.requires.queries i c.loop-q-test.true no_query (shards_in now) c.loop-q.fed.items c.loop-q.invariant.fed in
     let k = c.in_ok-one.ensures.feeds (entries_of first) o points in
     record {
-      kept = c.in_ok-one.ensures.kept;
+      free = c.in_ok-one.ensures.free;
       fed = subst (λ (fs : List Fed). IsFeeding b (entries_of first) (shards_in first) (shards_in new) (take (i + 1) qs) fs (drop (i + 1) qs)) (sym c.in_ok-push.ensures.items)
           (fed-next b c.requires.lawful (entries_of first) (shards_in first) qs c.requires.queries i c.loop-q-test.true no_query (shards_in now) (shards_in new) c.loop-q.fed.items f c.loop-q.invariant.fed k);
       asks = subst (λ (fs : List Fed). VisitsTo b g.B.BatchName.opening qs (shards_in first) (shards_in new) (i + 1) fs) (sym c.in_ok-push.ensures.items)

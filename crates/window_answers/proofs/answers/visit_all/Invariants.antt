@@ -7,7 +7,7 @@ use Rattle.window_answers.proofs.answers.visit_all.Given as goal
 
 abbrev pub invariant-loop-q : goal.invariant-loop-q
 invariant-loop-q g l = record {
-  kept : AreFreeShards g.B.BatchName.batch g.B.BatchName.opening l.memo;
+  free : AreFreeShards g.B.BatchName.batch g.B.BatchName.opening l.memo;
   fed : IsFeeding g.B.BatchName.batch (entries_of l.initial.memo) (shards_in l.initial.memo) (shards_in l.memo) (take l.q-index l.queries) l.fed.items (drop l.q-index l.queries);
   asks : VisitsTo g.B.BatchName.batch g.B.BatchName.opening l.queries (shards_in l.initial.memo) (shards_in l.memo) l.q-index l.fed.items;
 }

@@ -58,7 +58,7 @@ returns g c =
     let v : IsWalking b (entries_of begun) (shards_in begun) now [] [] c.args.queries.now c.deref.result.now = subst (λ (fs : List Fed). IsWalking b (entries_of begun) (shards_in begun) now [] [] c.args.queries.now fs) (sym c.deref.ensures.value)
     (subst (λ (qs : List Query). IsWalking b (entries_of begun) (shards_in begun) now [] [] qs c.in_ok-fed.fed.items) (sym c.requires.queries) w) in
     subst (λ (ms : List KeptShard). HasSettled b g.B.BatchName.opening c.args.shards.items ms c.in_ok-outcomes.outcomes.items) (sym c.into_shards.ensures)
-    (has-settled b c.requires.lawful g.B.BatchName.opening c.args.shards.items begun c.in_ok-memo.ensures.shards c.in_ok-memo.ensures.freed new c.in_ok-outcomes.outcomes.items c.in_ok-outcomes.ensures.kept (c.in_ok-outcomes.ensures.settled (entries_of begun) (shards_in begun) v) (record {
+    (has-settled b c.requires.lawful g.B.BatchName.opening c.args.shards.items begun c.in_ok-memo.ensures.shards c.in_ok-memo.ensures.freed new c.in_ok-outcomes.outcomes.items c.in_ok-outcomes.ensures.free (c.in_ok-outcomes.ensures.settled (entries_of begun) (shards_in begun) v) (record {
       freed = shards_in begun;
       frees = c.in_ok-memo.ensures.freed;
       visited = now;
