@@ -1,6 +1,6 @@
 -- A shard agrees with its journal after the entries that end claims.
 use Rattle.std.proofs.Common.{◌≡◌, ◌⊎◌, ℕ, zero, suc, ◌-◌, ◌%◌, ◌≤◌, Bool, true, false, cond, not, ◌&&◌, nat_eq, List, [], ◌∷◌, ◌++◌, length, slice_get, refl, ap, sym, ◌∙◌, subst, Option, Some, None, option_map, arith, inl, inr, true≢false}
-use Rattle.std.specs.List.{AllByRecursion, AllZip}
+use Rattle.std.specs.List.{AllByRecursion}
 use Rattle.std.specs.BTreeMap.{is_at}
 use Rattle.std.proofs.lemmas.List.Elements.{All-from_recursion}
 use Rattle.valid_intervals.specs.declared.Cell.{Cell}
@@ -19,18 +19,19 @@ use Rattle.journal_meaning.proofs.Claims.{holder-ended}
 use Rattle.journal_meaning.proofs.Same.{same_stored-itself}
 use Rattle.journal_meaning.proofs.More.{right-answers}
 use Rattle.circuit_meaning.specs.Circuit.{Circuit, IsCircuit}
-use Rattle.strand_meaning.specs.Strands.{next, next_in, after_answer, after_fill, after_drop}
+use Rattle.strand_meaning.specs.Strands.{next, next_in}
 use Rattle.strand_meaning.specs.declared.Next.TheVariants.{Ask}
 use Rattle.plan_machine.specs.Shards.{Shard, IsShard, shard_with_entry, shard_without_cell, with_room, filled_shard}
 use Rattle.plan_machine.proofs.Shards.{spent-shard, dropped-shard, filled-keeps, filled-claims}
 use Rattle.claim_waiters.specs.Claims.{WaitedClaim, Claims, IsInOrder, claim_at, holder_in, waiting_in, waiters_of, waiters_at, without_claim}
 use Rattle.claim_waiters.proofs.Tables as tables
 use Rattle.demand_points.specs.Demands as demands
-use Rattle.demand_points.specs.Demands.{Demand, IsAskedCell, TakesStep}
+use Rattle.demand_points.specs.Demands.{Demand, IsAskedCell}
 use Rattle.memo_shards.specs.KeptShards.{shard_at}
 use Rattle.memo_shards.specs.inner.KeptShards.{waits_in}
 use Rattle.memo_shards.specs.inner.View.{AsksThere, Agrees}
-use Rattle.memo_shards.specs.Ends.{LeavesNone, FillsIt, DropsIt, with_shard}
+use Rattle.memo_shards.specs.Ends.{LeavesNone, with_shard}
+use Rattle.memo_shards.specs.Grants.{LetsOut, TakesCell, TakesBack}
 use Rattle.memo_shards.specs.inner.Ends.{after_eviction}
 use Rattle.memo_shards.proofs.Asking.{refused}
 use Rattle.memo_shards.proofs.Waits.{ordered-without, waits-at}
@@ -143,14 +144,19 @@ module _ (b : Batch) (opening : List SignalCell) (n : ℕ) (store : Contents) (c
       leaves-none left e k l x =
           waits-at left (subst IsInOrder (sym e) (ordered-without (is_at (point_cmp p)) claims order)) x ∙ ap (λ z. waiters_at z x) e ∙ tables.waiters-without claims p x order ∙ sym (ap (cond (same_point p x) []) (waits-at claims order x))
 
-      pub dropped-shown : (w s : Demand) → w.strand.query.number ≡ q → TakesStep after_drop w s → (woken : List Demand) → waiters_of claims p ≡ Some woken → (left : Claims Demand) → left ≡ without_claim claims p
-          → (fs : List Entry) → fs ≡ es ++ entry.Dropped q p ∷ [] → DropsIt (shown b opening n store claims es is) (shown_with b opening n store claims es is fs left) p w s woken
-      dropped-shown w s number steps woken e left rest fs items = record {
-        strand = steps;
-        same = sym (waits-at claims order p ∙ waiters-are (claim_at claims p) woken e);
+      lets-out : (waited : List Demand) → waiters_of claims p ≡ Some waited → (left : Claims Demand) → left ≡ without_claim claims p → (k l : Shard)
+          → LetsOut (record { number = n; shard = k; waiting = waits_in claims }) (record { number = n; shard = l; waiting = waits_in left }) p waited
+      lets-out waited e left rest k l = record {
+        same = sym (waits-at claims order p ∙ waiters-are (claim_at claims p) waited e);
         number = refl;
+        waiting = leaves-none left rest k l;
+      }
+
+      pub dropped-shown : (w : Demand) → w.strand.query.number ≡ q → (waited : List Demand) → waiters_of claims p ≡ Some waited → (left : Claims Demand) → left ≡ without_claim claims p
+          → (fs : List Entry) → fs ≡ es ++ entry.Dropped q p ∷ [] → TakesBack (shown b opening n store claims es is) (shown_with b opening n store claims es is fs left) p w waited
+      dropped-shown w number waited e left rest fs items = record {
+        out = lets-out waited e left rest h (shard_at opening fs);
         shard = ap (shard_at opening) items ∙ shard-is b opening n (shard_with_entry (entry.Dropped q p) h) dropped-is ∙ ap (λ m. shard_with_entry (entry.Dropped m p) h) (sym number);
-        waiting = leaves-none left rest h (shard_at opening fs);
       }
 
       -- a point is filled
@@ -173,14 +179,12 @@ module _ (b : Batch) (opening : List SignalCell) (n : ℕ) (store : Contents) (c
       filled-items fs e = e ∙ ap (λ (z : Contents). after_eviction (cond (pushes_out x z) (last_key z.cells) None) es ++ entry.Filled q p (cell_at b.circuit p) ∷ []) is.stored
           ∙ ap (λ l. l ++ entry.Filled q p (cell_at b.circuit p) ∷ []) (put-items b.capacity x h)
 
-      pub filled-shown : (w s : Demand) → w.strand.query.number ≡ q → TakesStep after_fill w s → (waited woken : List Demand) → waiters_of claims p ≡ Some waited → AllZip (TakesStep after_answer) waited woken → (left : Claims Demand) → left ≡ without_claim claims p
-          → (fs : List Entry) → fs ≡ k.journal → FillsIt b (shown b opening n store claims es is) (shown_with b opening n store claims es is fs left) p w s woken
-      filled-shown w s number steps waited woken e hears left rest fs items = record {
-        strand = steps;
-        hears = subst (λ l. AllZip (TakesStep after_answer) l woken) (sym (waits-at claims order p ∙ waiters-are (claim_at claims p) waited e)) hears;
-        number = refl;
+      pub filled-shown : (w : Demand) → w.strand.query.number ≡ q → (cell : Cell) → cell ≡ cell_at b.circuit p → (waited : List Demand) → waiters_of claims p ≡ Some waited → (left : Claims Demand) → left ≡ without_claim claims p
+          → (fs : List Entry) → fs ≡ k.journal → TakesCell b (shown b opening n store claims es is) (shown_with b opening n store claims es is fs left) p w cell waited
+      filled-shown w number cell right waited e left rest fs items = record {
+        right = right;
+        out = lets-out waited e left rest h (shard_at opening fs);
         shard = ap (shard_at opening) items ∙ shard-is b opening n k filled-is ∙ ap (λ m. filled_shard b.capacity m p (cell_at b.circuit p) h) (sym number);
-        waiting = leaves-none left rest h (shard_at opening fs);
       }
 
     -- the cell of a claimed point fits the store

@@ -19,18 +19,19 @@ use Rattle.journal_meaning.proofs.Claims.{holder-claimed}
 use Rattle.journal_meaning.proofs.Named.{Ours, claim_ours}
 use Rattle.journal_meaning.proofs.More.{right-answers}
 use Rattle.batch_meaning.specs.Lawful.{IsLawful}
-use Rattle.strand_meaning.specs.Strands.{next, after_answer, after_claim}
+use Rattle.strand_meaning.specs.Strands.{next}
 use Rattle.strand_meaning.specs.declared.Next.TheVariants.{Ask}
 use Rattle.plan_machine.specs.Shards.{Shard, IsShard, shard_with_entry}
 use Rattle.plan_machine.proofs.Shards.{found, told-keeps, claimed-shard}
 use Rattle.claim_waiters.specs.Claims.{WaitedClaim, Claims, IsInOrder, claim_at, holder_in, with_claim, with_waiter, waiters_at}
 use Rattle.claim_waiters.proofs.Tables as tables
 use Rattle.demand_points.specs.Demands as demands
-use Rattle.demand_points.specs.Demands.{Demand, TakesStep}
+use Rattle.demand_points.specs.Demands.{Demand}
 use Rattle.memo_shards.specs.KeptShards.{KeptShard, shard_at, IsWaiting, IsKnownShard}
 use Rattle.memo_shards.specs.inner.KeptShards.{waits_in, waits_for}
 use Rattle.memo_shards.specs.inner.View.{AsksThere, Agrees}
-use Rattle.memo_shards.specs.Asks.{Tells, ClaimsIt, OfPark}
+use Rattle.memo_shards.specs.Asks.{OfPark}
+use Rattle.memo_shards.specs.Grants.{TellsCell, GivesClaim}
 use Rattle.memo_shards.proofs.Asking.{asked}
 use Rattle.memo_shards.proofs.Waits.{ordered-waited, waits-at, waits-claimed, each-claimed, each-waits}
 
@@ -155,13 +156,12 @@ module _ (b : Batch) (opening : List SignalCell) (n : ℕ) where
         agrees-at is.lawful is.among (shard_with_entry (entry.Told q p cell) now) t.shard left claims
         (e ∙ ap (λ (z : Contents). with_cells z (to_front (cell_for p cell) z.cells)) is.stored) is.holders is.asks
 
-    pub told-shown : (w s : Demand) (p : Point) (cell : Cell) → IsTold p w.strand.query.number cell → TakesStep after_answer w s → (fs : List Entry) → fs ≡ es ++ entry.Told w.strand.query.number p cell ∷ [] → Tells shown (shown_with fs claims) p w s
-    told-shown w s p cell t steps fs e = record {
-      cell = t.found;
+    pub told-shown : (w : Demand) (p : Point) (cell : Cell) → IsTold p w.strand.query.number cell → (fs : List Entry) → fs ≡ es ++ entry.Told w.strand.query.number p cell ∷ [] → TellsCell shown (shown_with fs claims) p w cell
+    told-shown w p cell t fs e = record {
+      found = t.found;
       stored = t.at;
-      strand = steps;
-      shard = ap (λ l. shown_with l claims) e ∙ ap (λ (k : Shard). record shown { shard = k }) (shard-is (shard_with_entry (entry.Told w.strand.query.number p cell) now) t.shard)
-          ∙ ap (λ x. record shown { shard = shard_with_entry (entry.Told w.strand.query.number p x) now }) (sym t.same);
+      told = t.same;
+      shard = ap (λ l. shown_with l claims) e ∙ ap (λ (k : Shard). record shown { shard = k }) (shard-is (shard_with_entry (entry.Told w.strand.query.number p cell) now) t.shard);
     }
 
     -- a claim
@@ -177,12 +177,10 @@ module _ (b : Batch) (opening : List SignalCell) (n : ℕ) where
           (λ x. tables.holder-claimed claims q p x none ∙ ap (cond (same_point p x) (Some q)) (is.holders x) ∙ sym (holder-claimed now.state.claims q p x))
           (tables.each-inserted AsksThere claims p (record { q = q; waiters = [] }) tt none is.asks)
 
-      pub claimed-shown : w.strand.charged < w.strand.budget → (s : Demand) → TakesStep (λ x. after_claim b.circuit x p) w s → (fs : List Entry) → fs ≡ es ++ entry.Claimed w.strand.query.number p ∷ []
-          → ClaimsIt b shown (shown_with fs (with_claim claims w.strand.query.number p)) p w s
-      claimed-shown within s steps fs e = record {
+      pub claimed-shown : w.strand.charged < w.strand.budget → (fs : List Entry) → fs ≡ es ++ entry.Claimed w.strand.query.number p ∷ [] → GivesClaim shown (shown_with fs (with_claim claims w.strand.query.number p)) p w
+      claimed-shown within fs e = record {
         unfound = record { missed = missed; unclaimed = free };
         within = within;
-        strand = steps;
         shard = ap (λ l. shown_with l (with_claim claims w.strand.query.number p)) e
             ∙ ap₂ (λ (k : Shard) l. record { number = n; shard = k; waiting = l }) (shard-is (shard_with_entry (entry.Claimed w.strand.query.number p) now) claimed-is) (waits-claimed claims p w.strand.query.number (unclaimed p free));
       }

@@ -1,5 +1,5 @@
-pub mod Asks
 pub mod Ends
+pub mod Grants
 pub mod KeptShards
 pub mod Seen
 pub mod View

@@ -1,25 +1,30 @@
 //! A shard of the memo.
 
-ghost use Rattle.std.specs.Prelude.{◌≡◌, ◌<◌, ◌≤◌, ◌+◌, ◌*◌, true, false, [], ◌++◌, length, map, All, IsTrue, ◌↔◌, IsSome, Some, None, Ok, OnOk, OnErr, vec_len, vec_capacity};
+ghost use Rattle.std.specs.Prelude.{◌≡◌, ◌<◌, ◌≤◌, ◌+◌, ◌*◌, true, false, [], ◌++◌, length, map, All, IsTrue, ◌↔◌, IsSome, Some, None, Ok, OnOk, OnErr, IfOk, vec_len, vec_capacity};
 ghost use Rattle.std.specs.List.{AllByRecursion, list_any};
 ghost use Rattle.cell_store.specs.Recency.{contents};
+ghost use Rattle.circuit_meaning.specs.Cells.{cell_at};
 ghost use Rattle.claim_waiters.specs.Claims.{claim_at, without_claim};
 ghost use Rattle.journal_meaning.specs.Allowed.{IsRight};
 ghost use Rattle.journal_meaning.specs.States.{holder};
 ghost use Rattle.batch_meaning.specs.Batches.{shard_number};
 ghost use Rattle.batch_meaning.specs.Lawful.{IsLawful};
 ghost use Rattle.journal_meaning.specs.declared.Entry.TheVariants as entry;
+ghost use Rattle.demand_points.specs.Demands.{IsAskedCell};
 ghost use Rattle.strand_meaning.specs.Strands.{next, next as next_of, next_in};
 ghost use Rattle.strand_meaning.specs.declared.Next.TheVariants.{Ask, Fill, Drop};
 ghost use Rattle.valid_intervals.specs.Cells.{stored_at};
 ghost use Rattle.plan_machine.specs.Shards.{shard_with_entry};
 ghost use Rattle.memo_shards.specs.KeptShards.{shard_at, IsKnownShard};
 ghost use Rattle.memo_shards.specs.Asks.{IsHere, IsUnfound, OfPark};
-ghost use Rattle.memo_shards.specs.inner.Asks.{OfTell};
+ghost use Rattle.memo_shards.specs.Grants.{IsGranted, IsRequest, OfGrant, TakesBack, TakesCell, step_of};
+ghost use Rattle.memo_shards.specs.inner.Grants.{OfTell};
 ghost use Rattle.memo_shards.specs.Ends.{FreesAll, with_shard};
 ghost use Rattle.memo_shards.specs.Steps.{MayStep, OfStep};
 ghost use Rattle.memo_shards.specs.inner.Ends.{drop_of};
 
+use crate::grant::Grant;
+use crate::request::Request;
 use crate::room::{make_room, record_fill, told};
 use crate::steps::Step;
 use crate::wake::hear_all;
@@ -32,7 +37,7 @@ use owned_text::OutOfMemory;
 use std::alloc::Global;
 use std::marker::Model;
 use strand_meaning::Next;
-use valid_intervals::Point;
+use valid_intervals::{Cell, Point};
 
 /// The number of the shard that has the points of a signal, of so many shards.
 pub fn shard_number(signal: u32, count: usize) -> usize
@@ -54,10 +59,11 @@ pub fn shard_number(signal: u32, count: usize) -> usize
 /// One shard of the memo, in the batch that B names.
 #[derive(Drop)]
 pub struct Shard<B: BatchName> {
+    // what nearly each step writes stands first, on as few cache lines as may be
     number: u32,
-    store: CellStore,
-    claims: ClaimTable<Strand<B>>,
     journal: Vec<Entry>,
+    claims: ClaimTable<Strand<B>>,
+    store: CellStore,
 }
 
 impl<B: BatchName> Model for Shard<B> {
@@ -127,17 +133,12 @@ impl<B: BatchName> Shard<B> {
 }
 
 impl<B: BatchName> Shard<B> {
-    // Tells the strand the cell that covers the point, if one is stored.
-    fn tell(
-        &mut self,
-        strand: &mut Strand<B>,
-        design: &Design,
-        p: Point,
-    ) -> Result<bool, OutOfMemory>
-        requires design { design.now.circuit ≡ B.batch.circuit }
-        requires asks { next strand.old.strand ≡ Ask p }
+    // Tells the cell that covers the point, if one is stored. Nearly each step of either kind calls it, so it stands in both.
+    #[inline(always)]
+    fn tell(&mut self, strand: &Strand<B>, p: Point) -> Result<Option<Cell>, OutOfMemory>
+        requires asks { next strand.now.strand ≡ Ask p }
         requires here { IsHere B.batch self.old p }
-        ensures { OfTell self.old self.new p strand.old strand.new result }
+        ensures { OfTell B.batch self.old self.new p strand.now result }
     {
         strand.facts();
         let q = strand.query().number;
@@ -145,13 +146,108 @@ impl<B: BatchName> Shard<B> {
         match self.store.find(p) {
             Some(cell) => {
                 self.journal.push_reserved(told(q, p, &cell));
-                strand.hear(design, cell);
-                Ok(true)
+                Ok(Some(cell))
             }
-            None => Ok(false),
+            None => Ok(None),
         }
     }
 
+    // Gives the claim of the point to the strand's query, if the point is free.
+    fn give_claim(&mut self, strand: &Strand<B>, p: Point) -> Result<Grant<B>, OutOfMemory>
+        requires asks { next strand.now.strand ≡ Ask p }
+        requires here { IsHere B.batch self.old p }
+        requires missed { stored_at self.old.shard.state.cells p ≡ None }
+        requires within { strand.now.strand.charged < strand.now.strand.budget }
+        ensures grant { OfGrant B.batch self.old self.new (Ask p) strand.now result }
+        ensures right { IfOk result (IsGranted B.batch strand.now) }
+    {
+        strand.facts();
+        let q = strand.query().number;
+        make_room(&mut self.journal, self.claims.len(), 3)?;
+        if !self.claims.claim(q, p)? {
+            return Ok(Grant::Taken);
+        }
+        self.journal.push_reserved(Entry::Claimed { q, p });
+        Ok(Grant::Claimed(p))
+    }
+
+    // What an ask is granted: the stored cell that covers the point, else the claim of the point, if it is free and the budget has room.
+    fn ask(&mut self, strand: &Strand<B>, p: Point) -> Result<Grant<B>, OutOfMemory>
+        requires asks { next strand.now.strand ≡ Ask p }
+        requires here { IsHere B.batch self.old p }
+        ensures grant { OfGrant B.batch self.old self.new (Ask p) strand.now result }
+        ensures right { IfOk result (IsGranted B.batch strand.now) }
+    {
+        if let Some(cell) = self.tell(strand, p)? {
+            return Ok(Grant::Told(cell));
+        }
+        if strand.charge() < strand.task().budget {
+            return self.give_claim(strand, p);
+        }
+        if self.claims.holder(p).is_some() {
+            return Ok(Grant::Taken);
+        }
+        Ok(Grant::Refused)
+    }
+
+    // Takes the cell of the claimed point. Those that waited for it come out.
+    #[inline(always)]
+    fn fill(
+        &mut self,
+        strand: &Strand<B>,
+        p: Point,
+        cell: &Cell,
+    ) -> Result<Vec<Strand<B>>, OutOfMemory>
+        requires claimed { holder self.old.shard.state.claims p
+            ≡ Some strand.now.strand.query.number }
+        requires right { cell.now ≡ cell_at B.batch.circuit p }
+        ensures taken { IfOk result (λ waited. TakesCell B.batch self.old self.new p strand.now
+            cell.now waited.items) }
+        ensures asked { IfOk result (λ waited. AllByRecursion
+            (λ s. IsAskedCell B.batch.circuit s.strand cell.now) waited.items) }
+        ensures err { OnErr result (self.new ≡ self.old) }
+    {
+        self.claims.facts();
+        let q = strand.query().number;
+        record_fill(&mut self.store, &mut self.journal, q, p, cell)?;
+        Ok(self.claims.take(p))
+    }
+
+    // Takes the claim of the point back. Those that waited for it come out.
+    fn take_back(&mut self, strand: &Strand<B>, p: Point) -> Vec<Strand<B>>
+        requires claimed { holder self.old.shard.state.claims p
+            ≡ Some strand.now.strand.query.number }
+        ensures { TakesBack self.old self.new p strand.now result.items }
+    {
+        self.claims.facts();
+        let q = strand.query().number;
+        let waited = self.claims.take(p);
+        self.journal.push_reserved(Entry::Dropped { q, p });
+        waited
+    }
+
+    /// Makes the shard's half of the strand's next step: what the strand may do then is granted, and recorded. An ask is told the stored
+    /// cell that covers the point. Else it is given the claim, if the point is free, or is refused it where its budget is spent. Where the
+    /// point is claimed, or memory runs out, nothing changes. Those that waited for a point that is filled or given up come out in their
+    /// order.
+    pub fn grant(&mut self, strand: &Strand<B>, request: Request) -> Result<Grant<B>, OutOfMemory>
+        requires request { IsRequest B.batch strand.now request }
+        requires stands { MayStep B.batch self.old (step_of request) strand.now }
+        ensures grant { OfGrant B.batch self.old self.new (step_of request) strand.now result }
+        ensures right { IfOk result (IsGranted B.batch strand.now) }
+    {
+        match request {
+            Request::Ask(p) => self.ask(strand, p),
+            Request::Fill(p, cell) => {
+                let waited = self.fill(strand, p, &cell)?;
+                Ok(Grant::Filled(cell, waited))
+            }
+            Request::Drop(p) => Ok(Grant::Dropped(self.take_back(strand, p))),
+        }
+    }
+}
+
+impl<B: BatchName> Shard<B> {
     // Claims the point for the strand, if it is free.
     fn claim(
         &mut self,
@@ -184,8 +280,7 @@ impl<B: BatchName> Shard<B> {
         }
     }
 
-    // Asks for the point that the strand needs next. It is told the stored cell that covers it. Else it claims the point, if that is
-    // free, or is refused it where its budget is spent.
+    // Asks for the point that the strand needs next. A claim is recorded once the strand has taken it.
     fn answer(
         &mut self,
         strand: &mut Strand<B>,
@@ -197,7 +292,8 @@ impl<B: BatchName> Shard<B> {
         requires here { IsHere B.batch self.old p }
         ensures { OfStep B.batch self.old self.new (Ask p) strand.old strand.new result }
     {
-        if self.tell(strand, design, p)? {
+        if let Some(cell) = self.tell(strand, p)? {
+            strand.hear(design, cell);
             return Ok(Step::Heard);
         }
         if strand.charge() < strand.task().budget {
@@ -223,11 +319,8 @@ impl<B: BatchName> Shard<B> {
             ≡ Some strand.old.strand.query.number }
         ensures { OfStep B.batch self.old self.new (Fill p) strand.old strand.new result }
     {
-        self.claims.facts();
-        let q = strand.query().number;
         let cell = strand.top_cell(design);
-        record_fill(&mut self.store, &mut self.journal, q, p, &cell)?;
-        let mut woken = self.claims.take(p);
+        let mut woken = self.fill(strand, p, &cell)?;
         hear_all(&mut woken, design, &cell);
         strand.finish_with(design, &cell);
         Ok(Step::Filled(woken))
@@ -240,10 +333,7 @@ impl<B: BatchName> Shard<B> {
             ≡ Some strand.old.strand.query.number }
         ensures { OfStep B.batch self.old self.new (Drop p) strand.old strand.new (Ok result) }
     {
-        self.claims.facts();
-        let q = strand.query().number;
-        let woken = self.claims.take(p);
-        self.journal.push_reserved(Entry::Dropped { q, p });
+        let woken = self.take_back(strand, p);
         let _ = strand.drop_top();
         Step::Dropped(woken)
     }

@@ -103,12 +103,12 @@ map-back f [] i y h = absurd (cc h)
 map-back f (x ∷ xs) zero y h = let e : f x ≡ y = cc h in (x, (refl, sym e))
 map-back f (x ∷ xs) (suc i) y h = map-back f xs i y h
 
-all-at : {A : Type 0} (P : A → Type 0) (xs : List A) (i : ℕ) (x : A) → AllByRecursion P xs → slice_get xs i ≡ Some x → P x
+pub all-at : {A : Type 0} (P : A → Type 0) (xs : List A) (i : ℕ) (x : A) → AllByRecursion P xs → slice_get xs i ≡ Some x → P x
 all-at P [] i x all h = absurd (cc h)
 all-at P (y ∷ ys) zero x all h = let e : y ≡ x = cc h in subst P e all.0
 all-at P (y ∷ ys) (suc i) x all h = all-at P ys i x all.1 h
 
-some-at : {A : Type 0} (xs : List A) (i : ℕ) → i < length xs → (x : A) × (slice_get xs i ≡ Some x)
+pub some-at : {A : Type 0} (xs : List A) (i : ℕ) → i < length xs → (x : A) × (slice_get xs i ≡ Some x)
 some-at [] i h = absurd (omega arith)
 some-at (x ∷ xs) zero h = (x, refl)
 some-at (x ∷ xs) (suc i) h = some-at xs i (omega arith)

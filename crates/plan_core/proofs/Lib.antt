@@ -4,6 +4,6 @@ pub mod Stepping
 pub mod Resting
 pub mod Beginning
 pub mod Refusing
-pub mod Refused
 pub mod Rounds
+pub mod AloneTurns
 pub mod InTurn

@@ -19,11 +19,9 @@ use Rattle.plan_machine.proofs.Ready.{ready-moves}
 use Rattle.plan_machine.proofs.Journals.{turn-tasks}
 use Rattle.plan_machine.proofs.Alone.{turns-alone}
 use Rattle.std.specs.List.{sum_by}
-use Rattle.plan_core.specs.InTurn.{SomeRefused}
 use Rattle.plan_core.specs.inner.Refusals.{IsRefusedAt}
-use Rattle.plan_core.proofs.Refused.{turn-keeps, turn-refuses}
 
-moved : (t : Turned) → t ≢ comes.NotReady → is_turn t ≡ 1
+pub moved : (t : Turned) → t ≢ comes.NotReady → is_turn t ≡ 1
 moved comes.Told h = refl
 moved comes.Claimed h = refl
 moved comes.Waits h = refl
@@ -42,12 +40,6 @@ module _ (b : Batch) (plan new : Plan) (n : ℕ) (t : Turned) (is : t ≡ turn_o
       let one : is_turn (turn_outcome plan n) ≡ 1 = moved (turn_outcome plan n) (λ e. h (is ∙ e)) in
       let same : all_left b new ≡ all_left b (turn b plan n) = ap (all_left b) turns in
       omega arith
-
-  pub round-kept : SomeRefused plan → SomeRefused new
-  round-kept r = subst SomeRefused (sym turns) (turn-keeps b plan n r)
-
-  pub round-refuses : t ≡ comes.Spent → SomeRefused new
-  round-refuses h = subst SomeRefused (sym turns) (turn-refuses b plan n (sym is ∙ h))
 
   module _ (lawful : IsLawful b) (opening : ℕ → List SignalCell) (a : Start) (old : Plan) (spent : Option Point) (r : RunsAlone b opening n a old plan spent) where
     pub round-on : t ≢ comes.Spent → RunsAlone b opening n a old new spent

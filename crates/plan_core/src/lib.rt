@@ -2,8 +2,12 @@
 //!
 //! A [`Plan`] runs the strands of one batch in turns, on one thread. It makes the same calls of a shard (`memo_shards`) as a worker. A
 //! turn ([`Plan::turn`]) makes one step of one strand. [`Plan::run_alone`] makes the turns of one strand until it has ended. `asked_cells`
-//! calls it to ask for one cell. [`Plan::run_in_turn`] does so with each strand, one after another, up to a number of turns, and says
-//! whether none was refused a point. `worker_gate` begins each batch with it, and ends it so where one worker serves the batch.
+//! calls it to ask for one cell.
+//!
+//! [`run_in_turn`] needs no plan: it runs strands one after another in their own slice, each alone over the shards until it has ended, up to
+//! a number of turns or without a limit, and says whether none was refused a point. No other strand holds a point meanwhile, so none waits.
+//! Its contract says that each strand has ended with its number and its task, and that the strands claimed and filled as often as the
+//! shards recorded it. `worker_gate` begins each batch with it, and ends it so where one worker serves the batch.
 //!
 //! The model of a plan is the pure machine of `plan_machine`: the list of its strands, including those that wait, and the list of its
 //! shards. A turn is the machine's turn, so every theorem on lists of turns holds of the code. A plan's type guarantees that it is sound
@@ -19,23 +23,23 @@
 //! step for each strand that is woken. No list is shifted or copied. A strand is changed in its place, and moved only where it waits.
 //!
 //! ```
-//! let mut plan = Plan::new(alloc, &design, strands, shards)?;
-//! match plan.run_in_turn(&design, 1_000)? {
+//! match run_in_turn(&mut strands, &mut shards, &design, Some(1_000))? {
 //!     Some(true) => {} // each strand has heard its roots
 //!     Some(false) => {} // one was refused a point
 //!     None => {} // turns are left
 //! }
-//! let (strands, shards) = plan.into_parts(alloc)?;
 //! ```
 #![tactic(auto)]
 
 mod alone;
+mod in_turn;
 mod paused;
 mod places;
 mod plan;
 mod turns;
 
 pub use alone::Alone;
+pub use in_turn::run_in_turn;
 pub use plan::Plan;
 
 #[cfg(test)]

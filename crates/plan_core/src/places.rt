@@ -1,11 +1,11 @@
 //! The places of strands.
 
-ghost use Rattle.std.specs.Prelude.{◌≡◌, ◌<◌, ◌++◌, flat_map, length, map, slice_get, slice_set, Some, None, IfOk, OnOk, OnErr, IfSome};
+ghost use Rattle.std.specs.Prelude.{◌≡◌, ◌<◌, length, map, slice_get, slice_set, Some, None, IfOk, IfSome};
 ghost use Rattle.plan_machine.specs.inner.Parts.{put_back as put_all};
 ghost use Rattle.plan_machine.specs.Plans.{itself};
 ghost use Rattle.demand_points.specs.Demands.{Demand};
 ghost use Rattle.memo_shards.specs.inner.Seen.{numbered_strand};
-ghost use Rattle.plan_core.specs.inner.Places.{one_in, seats, tags, tag_of, AreNumbered, HaveNumbers, IsNextAt};
+ghost use Rattle.plan_core.specs.inner.Places.{seats, tags, tag_of, AreNumbered, HaveNumbers, IsNextAt};
 
 use crate::paused::Paused;
 use demand_points::{BatchName, Strand};
@@ -85,31 +85,4 @@ pub fn pause_all<B: BatchName>(
         places.push(Some(Paused::new(strand, design)))?;
     }
     Ok(places)
-}
-
-// Adds the strand of a place, if there is one.
-fn take_out<B: BatchName>(
-    strands: &mut Vec<Strand<B>>,
-    place: Option<Paused<B>>,
-) -> Result<(), OutOfMemory>
-    ensures { OnOk result (strands.new.items ≡ strands.old.items ++ one_in place) }
-{
-    if let Some(paused) = place {
-        strands.push(paused.into_strand())?;
-    }
-    Ok(())
-}
-
-/// The strands in the places, in their order.
-pub fn strands_in<B: BatchName>(
-    alloc: Global,
-    places: Vec<Option<Paused<B>>>,
-) -> Result<Vec<Strand<B>>, OutOfMemory>
-    ensures { IfOk result (λ v. v.items ≡ flat_map one_in places.items) }
-{
-    let mut strands = Vec::new(alloc);
-    for place in places {
-        take_out(&mut strands, place)?;
-    }
-    Ok(strands)
 }

@@ -1,6 +1,6 @@
 //! The plan.
 
-ghost use Rattle.std.specs.Prelude.{◌≡◌, ◌<◌, ℕ, All, Contains, true, false, length, slice_get, IfOk, OnOk, OnErr, Some, None};
+ghost use Rattle.std.specs.Prelude.{◌≡◌, ◌<◌, ℕ, true, false, length, slice_get, IfOk, OnOk, OnErr, Some};
 ghost use Rattle.batch_meaning.specs.Lawful.{IsLawful};
 ghost use Rattle.batch_meaning.specs.Pieces.{Start};
 ghost use Rattle.strand_meaning.specs.Strands.{started_strand, Strand as MachineStrand};
@@ -14,15 +14,13 @@ ghost use Rattle.valid_intervals.specs.declared.Point.{Point as PointRecord};
 ghost use Rattle.plan_machine.specs.Steps.{turn_outcome};
 ghost use Rattle.plan_machine.specs.Turns.{turn};
 ghost use Rattle.plan_machine.specs.Bounds.{all_left};
-ghost use Rattle.plan_machine.specs.Journals.{entries};
 ghost use Rattle.plan_machine.specs.Sound.{IsSound};
-ghost use Rattle.plan_core.specs.InTurn.{AllChildrenCovered, IsServed, IsUnbegun, SomeRefused};
 ghost use Rattle.demand_points.specs.Demands.{Demand};
 ghost use Rattle.plan_core.specs.Parts.{AreFreshStrands, AreFree, AreInOrder, plan_of_new, shards_in};
 
 use crate::alone::{Alone, asked_at, refuse};
 use crate::paused::Paused;
-use crate::places::{pause_all, strands_in};
+use crate::places::pause_all;
 use crate::turns;
 use demand_points::{BatchName, Strand};
 use design::Design;
@@ -169,99 +167,6 @@ impl<B: BatchName> Plan<B> {
         Ok(alone)
     }
 
-    // One turn of a strand that runs alone and may have been refused a point. Returns whether it goes on.
-    fn turn_on(
-        &mut self,
-        design: &Design,
-        number: u32,
-        unrefused: &mut bool,
-    ) -> Result<bool, OutOfMemory>
-        requires lawful { IsLawful B.batch }
-        requires design { design.now.circuit ≡ B.batch.circuit }
-        requires number { number < length self.old.strands }
-        ensures count { length self.new.strands ≡ length self.old.strands }
-        ensures less { IfOk result (λ more. more ≡ true
-            → all_left B.batch self.new < all_left B.batch self.old) }
-        ensures runs { (a : Start) (old : PlanRecord)
-            → (unrefused.old ≡ true → RunsAlone B.batch B.opening number a old self.old None)
-            → OnOk result (unrefused.new ≡ true
-            → RunsAlone B.batch B.opening number a old self.new None) }
-        ensures ended { (a : Start) (old : PlanRecord)
-            → (unrefused.old ≡ true → RunsAlone B.batch B.opening number a old self.old None)
-            → IfOk result (λ more. more ≡ false → unrefused.new ≡ true
-            → RanAlone B.batch B.opening number a old self.new None) }
-        ensures refusal_stays { OnOk result (SomeRefused self.old → SomeRefused self.new) }
-        ensures refused { OnOk result ((unrefused.old ≡ false → SomeRefused self.old)
-            → unrefused.new ≡ false → SomeRefused self.new) }
-    {
-        match self.turn(design, number)? {
-            Turned::NotReady => Ok(false),
-            Turned::Spent => {
-                *unrefused = false;
-                Ok(true)
-            }
-            _ => Ok(true),
-        }
-    }
-
-    // Turns of one strand alone until none is left to it, and no more than are left in all. Returns whether it was refused no point, or none
-    // where turns of it may be left.
-    fn run_to_end(
-        &mut self,
-        design: &Design,
-        number: u32,
-        left: &mut u64,
-    ) -> Result<Option<bool>, OutOfMemory>
-        requires design { design.now.circuit ≡ B.batch.circuit }
-        requires number { number < length self.old.strands }
-        ensures count { length self.new.strands ≡ length self.old.strands }
-        ensures ran { (a : Start) → BeginsAlone B.batch B.opening number a self.old
-            → IfOk result (λ unrefused. unrefused ≡ Some true
-            → RanAlone B.batch B.opening number a self.old self.new None) }
-        ensures refusal_stays { OnOk result (SomeRefused self.old → SomeRefused self.new) }
-        ensures refused { IfOk result (λ unrefused. unrefused ≡ Some false
-            → SomeRefused self.new) }
-    {
-        self.facts();
-        let mut unrefused = true;
-        'turns: while *left > 0 {
-            *left -= 1;
-            if !self.turn_on(design, number, &mut unrefused)? {
-                return Ok(Some(unrefused));
-            }
-        }
-        Ok(None)
-    }
-
-    /// Turns of one strand after another, in the order of their numbers, each until none is left to it, and no more than so many in all.
-    /// Returns whether no strand was refused a point, or none where turns may be left. Where none was refused, each strand has heard its
-    /// roots, and each point that was evaluated its children.
-    pub fn run_in_turn(&mut self, design: &Design, most: u64) -> Result<Option<bool>, OutOfMemory>
-        requires design { design.now.circuit ≡ B.batch.circuit }
-        ensures count { length self.new.strands ≡ length self.old.strands }
-        ensures heard { IsUnbegun B.batch self.old → IfOk result (λ unrefused. unrefused ≡ Some true
-            → AllChildrenCovered B.batch.circuit (entries self.new)) }
-        ensures served { IsUnbegun B.batch self.old
-            → IfOk result (λ unrefused. unrefused ≡ Some true
-            → (i : ℕ) (s : MachineStrand) → slice_get self.new.strands i ≡ Some s → IsServed s) }
-        ensures refused { IfOk result (λ unrefused. unrefused ≡ Some false
-            → SomeRefused self.new) }
-    {
-        let mut left = most;
-        let mut unrefused = true;
-        for place in 0..self.places.len() {
-            let Ok(number) = u32::try_from(place) else {
-                return Err(OutOfMemory);
-            };
-            let served = self.run_to_end(design, number, &mut left)?;
-            let Some(whole) = served else {
-                return Ok(None);
-            };
-            unrefused = unrefused && whole;
-        }
-        Ok(Some(unrefused))
-    }
-
     /// The shards, in order.
     pub fn into_shards(self) -> Vec<Shard<B>>
         ensures shards { shards_in result.items ≡ self.shards }
@@ -269,17 +174,5 @@ impl<B: BatchName> Plan<B> {
     {
         let Plan { places: _, shards } = self;
         shards
-    }
-
-    /// The strands that do not wait, in the order of their numbers, and the shards, in order.
-    pub fn into_parts(self, alloc: Global) -> Result<(Vec<Strand<B>>, Vec<Shard<B>>), OutOfMemory>
-        ensures strands { IfOk result (λ parts. All (λ s. Contains self.strands s.strand)
-            parts.0.items) }
-        ensures shards { IfOk result (λ parts. shards_in parts.1.items ≡ self.shards) }
-        ensures order { IfOk result (λ parts. AreInOrder parts.1.items) }
-    {
-        let Plan { places, shards } = self;
-        let strands = strands_in(alloc, places)?;
-        Ok((strands, shards))
     }
 }

@@ -1,5 +1,6 @@
 -- What a crew left, once the batch is settled.
 use Rattle.std.proofs.Common.{◌≡◌, ℕ, zero, suc, Bool, true, List, [], ◌∷◌, length, map, sum, sum_by, Option, Some, slice_get, slice_index, refl, sym, ap, subst, ◌∙◌, arith}
+use Rattle.std.proofs.lemmas.Simd.{map-map}
 use Rattle.std.proofs.lemmas.List.{length-map}
 use Rattle.std.proofs.lemmas.List.Sums.{sum_by-cons}
 use Rattle.valid_intervals.specs.declared.SignalCell.{SignalCell}
@@ -21,7 +22,6 @@ use Rattle.plan_core.specs.Parts.{shards_in, strands_in}
 use Rattle.window_answers.specs.Settlement.{HasSettled}
 use Rattle.worker_gate.specs.Ends.{task_of, booked_in, AreEnds, AreFilled}
 use Rattle.unit_answers.specs.Crewed.{IsEndOf, HasCrewed}
-use Rattle.unit_answers.proofs.Running.{map-twice}
 
 -- the claims and fills of shards are those of their journals
 booked-lists : (ms : List KeptShard) → sum_by booked_in ms ≡ sum_by booked_count (journals_of (shards_in ms))
@@ -69,7 +69,7 @@ module _ (c : Circuit) (starts : List Start) (strands : List Demand) (same : str
   has-crewed b opening handed ms os lists is_open settled journals counted many amounts filled = record {
     left = journals_of (shards_in handed);
     added = settled.settled.added;
-    journals = subst (λ l. AreAdded (journals_of (shards_in handed)) settled.settled.added l) (sym (journals ∙ map-twice (λ (x : Shard). x.journal) (λ (m : KeptShard). m.shard) ms)) settled.settled.journals;
+    journals = subst (λ l. AreAdded (journals_of (shards_in handed)) settled.settled.added l) (sym (journals ∙ sym (map-map (λ (x : Shard). x.journal) (λ (m : KeptShard). m.shard) ms))) settled.settled.journals;
     counts = counts;
     strands = places;
     counted = counted ∙ booked-lists handed;

@@ -1,5 +1,6 @@
 -- The waves of a batch, as a dump shows them.
-use Rattle.std.proofs.Common.{◌≡◌, ℕ, zero, suc, ◌+◌, ◌<◌, ◌≤◌, List, [], ◌∷◌, ◌++◌, length, length-append, get_or, take, Option, Some, None, option_map, refl, sym, ap, ap₂, subst, ◌∙◌, append_assoc, append-nil, arith, IsTrue}
+use Rattle.std.proofs.Common.{◌≡◌, ℕ, zero, suc, ◌+◌, ◌<◌, ◌≤◌, List, [], ◌∷◌, ◌++◌, length, get_or, take, Option, Some, None, option_map, refl, sym, ap, ap₂, subst, ◌∙◌, append_assoc, append-nil, arith, IsTrue}
+use Rattle.std.proofs.lemmas.Slice.Zip.{AllZip-long}
 use Rattle.std.specs.List.{AllZip, list_all}
 use Rattle.std.proofs.lemmas.List.{take_all}
 use Rattle.cell_store.specs.Recency.{Contents}
@@ -27,7 +28,8 @@ use Rattle.session_meaning.proofs.Asked.{window-asks}
 use Rattle.unit_answers.specs.Done.{IsBatchDone}
 use Rattle.unit_answers.specs.Dumps.{AreRunsOf, IsOwnWave, AreReplied}
 use Rattle.unit_answers.proofs.Windows.{query-times}
-use Rattle.unit_answers.proofs.Zips.{zip-length, zip-get, zip-weaker}
+use Rattle.session_meaning.proofs.Held.{wires-few}
+use Rattle.unit_answers.proofs.Zips.{zip-get, zip-weaker}
 
 -- the wave of a window that is asked
 pub record IsAskedWave (c : Circuit) (window : Window) (v : Verdict) (runs : List Run) : Type 0 where
@@ -71,29 +73,6 @@ wires-more d (x ∷ items) (y ∷ replies) (suc i) a b l m =
     ∙ ap (λ t. wires-at d x y ++ t) (wires-more d items replies i a b (omega (arith, l)) (omega (arith, m)))
     ∙ sym (append_assoc (wires-at d x y) (wires_of d (take i items) (take i replies)) (wires-at d (get_or items i a) (get_or replies i b)))
 
--- a reply has one wire at most
-one-wire : (d : Joined) (line : ℕ) (window : Option Window) (reply : Reply) → length (item_wire d line window reply) ≤ 1
-one-wire d line None reply = omega arith
-one-wire d line (Some window) reply = by (verdict d line window) reply
-  where
-    by : (v : Verdict) (reply : Reply) → length (wire_of d.circuit window v reply) ≤ 1
-    by (Ask q) (replies.Window (Answer runs)) = omega arith
-    by (Ask q) (replies.Window (Budget budget)) = omega arith
-    by (Ask q) (replies.Window outcomes.Unknown) = omega arith
-    by (Ask q) (replies.Window outcomes.Past) = omega arith
-    by (Ask q) replies.BadLine = omega arith
-    by Unknown reply = omega arith
-    by Past reply = omega arith
-
--- a batch has as many wires as items at most
-pub wires-few : (d : Joined) (items : List Item) (replies : List Reply) → length (wires_of d items replies) ≤ length items
-wires-few d [] replies = omega arith
-wires-few d (x ∷ items) [] = omega arith
-wires-few d (x ∷ items) (y ∷ replies) =
-    let one = one-wire d x.line (asked_window x.what) y in
-    let rest = wires-few d items replies in
-    omega (arith, length-append (wires-at d x y) (wires_of d items replies))
-
 -- a right reply that is a wave is that of what is asked
 own-wave : (c : Circuit) (es : List Entry) (v : Option Verdict) (reply : Reply) → IsReply c es v reply → IsOwnWave c v reply
 own-wave c es (Some (Ask q)) (replies.Window (Answer runs)) h = h.0
@@ -126,7 +105,7 @@ module _ (d : Joined) (items : List Item) (replies : List Reply) where
 
   -- a batch has as many replies as items
   pub as-many : AreReplied d items replies → length items ≡ length replies
-  as-many h = zip-length (λ item reply. IsOwnWave d.circuit (verdict_of d item) reply) items replies h.waves
+  as-many h = sym (AllZip-long (λ item reply. IsOwnWave d.circuit (verdict_of d item) reply) items replies h.waves)
 
   -- the reply at a place, if it is a wave, is that of the item there
   pub own-at : (i : ℕ) (x : Item) (y : Reply) → AreReplied d items replies → i < length items → x ≡ get_or items i x → y ≡ get_or replies i y

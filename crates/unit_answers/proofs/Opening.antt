@@ -1,5 +1,6 @@
 -- Shards that are opened over stores, and closed, one after another.
-use Rattle.std.proofs.Common.{◌≡◌, ℕ, zero, suc, ◌+◌, ◌-◌, ◌<◌, ◌≤◌, List, [], ◌∷◌, ◌++◌, length, get_or, slice_get, map, drop, All, Some, refl, sym, ap, subst, ◌∙◌, arith, append_assoc, append-nil, length-append, length-drop}
+use Rattle.std.proofs.Common.{◌≡◌, ℕ, zero, suc, ◌+◌, ◌-◌, ◌<◌, ◌≤◌, List, [], ◌∷◌, ◌++◌, length, get_or, slice_get, map, drop, All, Some, sym, ap, subst, ◌∙◌, arith, append_assoc, append-nil, length-append, length-drop}
+use Rattle.std.proofs.lemmas.List.{nil_from_length}
 use Rattle.std.proofs.lemmas.List.Elements.{All-push, All-nil, All-head, All-tail}
 use Rattle.valid_intervals.specs.declared.SignalCell.{SignalCell}
 use Rattle.cell_store.specs.Recency.{Contents, contents}
@@ -8,10 +9,6 @@ use Rattle.batch_meaning.specs.Batches.{Batch}
 use Rattle.memo_shards.specs.KeptShards.{KeptShard, shard_at}
 use Rattle.worker_gate.specs.Ends.{AreInOrder}
 use Rattle.unit_answers.specs.inner.Runs.{store_of, AreOpened, AreBegun}
-
-none-left : {X : Type 0} (left : List X) → length left ≡ 0 → left ≡ []
-none-left [] e = refl
-none-left (x ∷ xs) e = absurd (omega arith)
 
 -- what is said of each place holds of one more
 places-more : {X : Type 0} (P : X → ℕ → Type 0) (xs : List X) (y : X) → ((i : ℕ) (x : X) → slice_get xs i ≡ Some x → P x i) → P y (length xs) → (i : ℕ) (x : X) → slice_get (xs ++ y ∷ []) i ≡ Some x → P x i
@@ -127,7 +124,7 @@ module _ (capacity : ℕ) (ms : List KeptShard) where
     }
 
     none : many ≡ 0 → left ≡ []
-    none e = none-left left (sym closing.count ∙ e)
+    none e = nil_from_length left (sym closing.count ∙ e)
 
     -- all shards
     pub closes-lists : many ≡ 0 → lists ≡ map journal ms

@@ -1,5 +1,6 @@
 -- What a question that is a batch of its own comes to.
 use Rattle.std.proofs.Common.{◌≡◌, ℕ, ◌<◌, List, [], ◌∷◌, length, get_or, map, Option, refl, sym, ap, subst, ◌∙◌, arith}
+use Rattle.std.proofs.lemmas.Simd.{map-map}
 use Rattle.std.proofs.lemmas.List.{get_or-map, length-map}
 use Rattle.valid_intervals.specs.declared.SignalCell.{SignalCell}
 use Rattle.cell_store.specs.Recency.{Contents, contents}
@@ -24,7 +25,6 @@ use Rattle.unit_answers.specs.Done.{IsQuestionDone}
 use Rattle.unit_answers.specs.inner.Asked.{IsUnasked}
 use Rattle.unit_answers.specs.inner.Runs.{asks_at, store_of, IsNamed, AreEnded}
 use Rattle.unit_answers.proofs.Left.{lists-many, lists-legal, stores-left, stores-leave}
-use Rattle.unit_answers.proofs.Running.{map-twice}
 
 -- once its shards are closed, the question is done
 pub question-done : (setup : Setup) (question : Question) (reply : QuestionReply) (held : List (List Entry)) (b : Batch) (cells : ℕ → List SignalCell) (opening : List Contents)
@@ -37,9 +37,9 @@ question-done setup question reply held b cells opening sized named ms lists lef
     let first : List Shard = shards_in ms in
     let begins : IsFresh (asks_at setup site qs) (cells_of opening) first =
     subst (λ (x : Batch). IsFresh x (cells_of opening) first) named.batch (subst (λ (o : ℕ → List SignalCell). IsFresh b o first) named.opens free) in
-    let lists_are : lists ≡ journals_of first = ended.lists_are ∙ map-twice (λ (x : Shard). x.journal) (λ (m : KeptShard). m.shard) ms in
+    let lists_are : lists ≡ journals_of first = ended.lists_are ∙ sym (map-map (λ (x : Shard). x.journal) (λ (m : KeptShard). m.shard) ms) in
     let stores_are : left ≡ map (store_of setup.capacity) first =
-    ended.stores_are ∙ map-twice (store_of b.capacity) (λ (m : KeptShard). m.shard) ms ∙ ap (λ (x : Batch). map (store_of x.capacity) first) named.batch in
+    ended.stores_are ∙ sym (map-map (store_of b.capacity) (λ (m : KeptShard). m.shard) ms) ∙ ap (λ (x : Batch). map (store_of x.capacity) first) named.batch in
     record {
       count = lists-many setup site qs opening first lists left begins lists_are stores_are;
       legal = lists-legal setup site qs opening first lists left begins lists_are stores_are;

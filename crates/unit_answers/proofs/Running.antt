@@ -1,6 +1,8 @@
 -- A batch over the stores: it is lawful, its strands are new, and what settlement leaves.
-use Rattle.std.proofs.Common.{◌≡◌, ◌≢◌, ℕ, zero, suc, ◌+◌, ◌/◌, ◌%◌, ◌<◌, List, [], ◌∷◌, length, get_or, slice_get, map, flat_map, All, AllPairs, Some, refl, sym, ap, subst, ◌∙◌, arith}
+use Rattle.std.proofs.Common.{◌≡◌, ◌≢◌, ℕ, zero, suc, ◌+◌, ◌/◌, ◌%◌, ◌<◌, false, List, [], ◌∷◌, length, get_or, slice_get, map, flat_map, All, AllPairs, Some, refl, sym, ap, subst, ◌∙◌, arith}
 use Rattle.std.proofs.lemmas.List.{get_or-map, length-map}
+use Rattle.std.proofs.lemmas.Option.{slice_get-get_or}
+use Rattle.std.proofs.lemmas.Simd.{map-map}
 use Rattle.valid_intervals.specs.declared.SignalCell.{SignalCell}
 use Rattle.valid_intervals.specs.Spans.{Span}
 use Rattle.cell_store.specs.Recency.{Contents}
@@ -49,6 +51,7 @@ record IsUnused (s : Strand) : Type 0 where
   charged : s.charged ≡ 0
   free : s.stack ≡ []
   filled : s.filled ≡ 0
+  unspent : s.spent ≡ false
 
 abbrev IsUncharged : Start → Type 0
 IsUncharged a = a.charged ≡ 0
@@ -70,7 +73,7 @@ unused-at c (x ∷ strands) (a ∷ starts) same h zero s at =
     let here : x ≡ s = cc in
     let is : x.strand ≡ started_strand c a = cc in
     let begins : s.strand ≡ started_strand c a = ap (λ (y : Demand). y.strand) (sym here) ∙ is in
-    record { charged = ap (λ (y : Strand). y.charged) begins ∙ h.0; free = ap (λ (y : Strand). y.stack) begins; filled = ap (λ (y : Strand). y.filled) begins }
+    record { charged = ap (λ (y : Strand). y.charged) begins ∙ h.0; free = ap (λ (y : Strand). y.stack) begins; filled = ap (λ (y : Strand). y.filled) begins; unspent = ap (λ (y : Strand). y.spent) begins }
 unused-at c (x ∷ strands) (a ∷ starts) same h (suc i) s at =
     let more : strands_in strands ≡ map (started_strand c) starts = cc in unused-at c strands starts more h.1 i s at
 
@@ -78,11 +81,6 @@ at-place : {X : Type 0} (xs : List X) (i : ℕ) (x : X) → slice_get xs i ≡ S
 at-place [] i x at = absurd (cc)
 at-place (y ∷ xs) zero x at = (omega arith, λ d. cc)
 at-place (y ∷ xs) (suc i) x at = let r = at-place xs i x at in (omega (arith, r.0), r.1)
-
-place-at : {X : Type 0} (xs : List X) (i : ℕ) (d : X) → i < length xs → slice_get xs i ≡ Some (get_or xs i d)
-place-at [] i d low = absurd (omega arith)
-place-at (y ∷ xs) zero d low = refl
-place-at (y ∷ xs) (suc i) d low = place-at xs i d (omega arith)
 
 started-from : (c : Circuit) (starts : List Start) (n : ℕ) (s : Strand) → slice_get (map (started_strand c) starts) n ≡ Some s → (a : Start) × (s ≡ started_strand c a)
 started-from c [] n s e = absurd (cc)
@@ -104,6 +102,7 @@ module _ (c : Circuit) (qs : List Query) (strands : List Demand) (order : IsInOr
         charged = unused.charged;
         free = unused.free;
         filled = unused.filled;
+        unspent = unused.unspent;
       }
 
   -- and as many as the pieces
@@ -112,7 +111,7 @@ module _ (c : Circuit) (qs : List Query) (strands : List Demand) (order : IsInOr
 
 -- shards in order are numbered
 pub order-numbers : (ms : List KeptShard) → AreInOrder ms → AreNumbered ms
-order-numbers ms order n d low = order n (get_or ms n d) (place-at ms n d low)
+order-numbers ms order n d low = order n (get_or ms n d) (slice_get-get_or ms n d low)
 
 -- shards as a plan begins have no claim
 pub fresh-free : (b : Batch) (opening : ℕ → List SignalCell) (ms : List KeptShard) → IsFresh b opening (shards_in ms) → All (λ m. m.shard.state.claims ≡ []) ms
@@ -125,10 +124,6 @@ fresh-free b opening ms fresh k d low =
 pub settled-free : (b : Batch) (opening : ℕ → List SignalCell) (handed ms : List KeptShard) (os : List (Outcome (List Run))) → HasSettled b opening handed ms os → All (λ m. m.shard.state.claims ≡ []) ms
 settled-free b opening handed ms os h = fresh-free b opening ms h.settled.fresh
 
-pub map-twice : {A B C : Type 0} (g : B → C) (f : A → B) (xs : List A) → map (λ x. g (f x)) xs ≡ map g (map f xs)
-map-twice g f [] = refl
-map-twice g f (x ∷ xs) = ap (λ l. g (f x) ∷ l) (map-twice g f xs)
-
 -- the batch has run
 pub has-run : (b : Batch) (opening : ℕ → List SignalCell) (handed ms : List KeptShard) (os : List (Outcome (List Run))) (lists : List (List Entry)) (left : List Contents) → HasSettled b opening handed ms os
     → AreEnded b.capacity ms lists left → HasRun b opening os lists left
@@ -137,6 +132,6 @@ has-run b opening handed ms os lists left h ended = record {
   shards = shards_in ms;
   settled = h.settled;
   outcomes_are = h.outcomes_are;
-  lists_are = ended.lists_are ∙ map-twice (λ (x : Shard). x.journal) (λ (m : KeptShard). m.shard) ms;
-  stores_are = ended.stores_are ∙ map-twice (store_of b.capacity) (λ (m : KeptShard). m.shard) ms;
+  lists_are = ended.lists_are ∙ sym (map-map (λ (x : Shard). x.journal) (λ (m : KeptShard). m.shard) ms);
+  stores_are = ended.stores_are ∙ sym (map-map (store_of b.capacity) (λ (m : KeptShard). m.shard) ms);
 }

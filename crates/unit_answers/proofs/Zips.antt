@@ -1,13 +1,6 @@
 -- What holds of two lists place by place.
-use Rattle.std.proofs.Common.{◌≡◌, ℕ, zero, suc, ◌<◌, List, [], ◌∷◌, length, get_or, refl, ap, arith}
+use Rattle.std.proofs.Common.{ℕ, zero, suc, ◌<◌, List, [], ◌∷◌, length, get_or, arith}
 use Rattle.std.specs.List.{AllZip}
-
--- they have one length
-pub zip-length : {A B : Type 0} (P : A → B → Type 0) (xs : List A) (ys : List B) → AllZip P xs ys → length xs ≡ length ys
-zip-length P [] [] h = refl
-zip-length P (x ∷ xs) [] h = absurd h
-zip-length P [] (y ∷ ys) h = absurd h
-zip-length P (x ∷ xs) (y ∷ ys) h = ap suc (zip-length P xs ys h.1)
 
 -- it holds of what stands at a place
 pub zip-get : {A B : Type 0} (P : A → B → Type 0) (xs : List A) (ys : List B) (i : ℕ) (a : A) (b : B) → AllZip P xs ys → i < length xs → P (get_or xs i a) (get_or ys i b)

@@ -1,5 +1,5 @@
 -- Strands that have ended, at their places.
-use Rattle.std.specs.Prelude.{◌≡◌, ◌≢◌, ℕ, ◌+◌, ◌<◌, true, List, [], length, sum_by, Option, Some, None, slice_get, slice_index}
+use Rattle.std.specs.Prelude.{◌≡◌, ◌≢◌, ℕ, ◌+◌, ◌<◌, true, false, List, [], length, sum_by, Option, Some, None, slice_get, slice_index}
 use Rattle.journal_meaning.specs.Counts.{booked_count}
 use Rattle.demand_points.specs.declared.strand.Task.{Task}
 use Rattle.demand_points.specs.Demands.{Demand}
@@ -47,21 +47,30 @@ AreFilled places = (i : ℕ) → i < length places → slice_get places i ≢ So
 abbrev pub AreInOrder : List KeptShard → Type 0
 AreInOrder shards = (i : ℕ) (m : KeptShard) → slice_get shards i ≡ Some m → m.number ≡ i
 
--- The strand has this number, and has neither claimed nor filled a point.
+-- The strand has this number, has neither claimed nor filled a point, and was refused none.
 pub record IsNew (n : ℕ) (s : Demand) : Type 0 where
   pub number : s.number ≡ n
   pub charged : s.strand.charged ≡ 0
   pub free : s.strand.stack ≡ []
   pub filled : s.strand.filled ≡ 0
+  pub unspent : s.strand.spent ≡ false
 
 abbrev pub AreNew : List Demand → Type 0
 AreNew strands = (i : ℕ) (s : Demand) → slice_get strands i ≡ Some s → IsNew i s
+
+-- each strand has the number of its place
+abbrev pub AreNumbered : List Demand → Type 0
+AreNumbered strands = (i : ℕ) (s : Demand) → slice_get strands i ≡ Some s → s.number ≡ i
 
 -- how many claims and fills a shard has recorded
 abbrev pub booked_in : KeptShard → ℕ
 booked_in m = booked_count m.shard.journal
 
--- how often the strand at a place has claimed and filled a point
+-- how often a strand has claimed and filled a point
+abbrev pub made_by : Demand → ℕ
+made_by s = s.strand.charged + s.strand.filled
+
+-- the same of the strand at a place
 abbrev pub booked_at : Option Demand → ℕ
 booked_at None = 0
 booked_at (Some s) = s.strand.charged + s.strand.filled

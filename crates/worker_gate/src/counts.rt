@@ -1,6 +1,6 @@
 //! How many claims and fills the strands have made, and the shards have recorded.
 
-ghost use Rattle.std.specs.Prelude.{◌≡◌, ◌^◌, ◌≤◌, true, Some, None, length, map, slice_get, sum, sum_by, vec_len, IfOk, IfSome, MatchOption};
+ghost use Rattle.std.specs.Prelude.{◌≡◌, ◌^◌, ◌≤◌, true, Some, None, length, map, slice_get, sum, vec_len, IfOk, IfSome, MatchOption};
 ghost use Rattle.journal_meaning.specs.Counts.{is_booked};
 ghost use Rattle.worker_gate.specs.Ends.{AreCounted, booked_at, booked_in};
 
@@ -24,18 +24,6 @@ pub fn booked_by<B: BatchName>(shard: &Shard<B>) -> usize
     ensures { result ≡ booked_in shard.now }
 {
     shard.journal().iter().filter(|e| is_booked(e)).count()
-}
-
-/// How many claims and fills all shards have recorded, where that is within a u64.
-pub fn booked_by_all<B: BatchName>(shards: &[Shard<B>]) -> Option<u64>
-    ensures { MatchOption result (2 ^ 64 ≤ sum_by booked_in shards.now)
-        (λ n. n ≡ sum_by booked_in shards.now) }
-{
-    let mut all = 0u64;
-    for shard in shards {
-        all = all.checked_add(booked_by(shard) as u64)?;
-    }
-    Some(all)
 }
 
 // How often the strand at the place has claimed and filled a point.

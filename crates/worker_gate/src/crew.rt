@@ -10,8 +10,8 @@ ghost use Rattle.worker_gate.specs.Ends.{AreInOrder, AreNew, task_of, booked_in,
 
 use crate::begun::{Begun, tasks_of};
 use crate::gate::Gate;
-use crate::in_turn::{AfterTurns, end_in_turn, have_windows, make_turns};
-use crate::lines::lines_of;
+use crate::in_turn::{end_in_turn, make_turns, run_alone};
+use crate::lines::{lines_alone, lines_of};
 use crate::ran::Ran;
 use crate::run::run_workers;
 use demand_points::{BatchName, Strand};
@@ -45,9 +45,9 @@ pub trait Crew {
         ensures most { result ≤ 64 };
 
     /// Runs the strands over the shards. One strand after another makes the first turns of a batch on the caller's thread, without locks,
-    /// and all turns where there is one worker or one strand. Where turns are left, so many workers make them, and no more than there are
-    /// strands. Returns the shards in their order, the strands that ended, and how many claims and fills each strand made. If memory runs
-    /// out, the shards are dropped.
+    /// and all turns where there is one worker or one strand: the functions that do this cannot wait, so they are proved to end. Where turns
+    /// are left, so many workers make them, and no more than there are strands. Returns the shards in their order, the strands that ended,
+    /// and how many claims and fills each strand made. If memory runs out, the shards are dropped.
     final fn run<B: BatchName + Send + Sync>(
         &self,
         alloc: Global,
@@ -77,28 +77,21 @@ pub trait Crew {
         ensures said { IfOk result (λ ran. IfSome ran.said
             (λ said. HaveCounted (entries_in (shards_in ran.shards)) said.fills.items)) }
     {
-        let tasks = tasks_of(alloc, strands.as_slice())?;
-        let are_known = have_windows(strands.as_slice());
-        let begun = Begun {
-            shards,
-            strands,
-            tasks,
-        };
-        if !are_known {
-            let gate = self.gate();
-            return run_workers(self.runtime(), alloc, design, begun, self.workers(), gate);
+        if self.workers() == 1 || strands.len() <= 1 {
+            return run_alone(alloc, design, shards, strands);
         }
-        let most = turns_before(self.gate(), self.workers(), begun.tasks.len());
-        let AfterTurns { begun, unrefused } = make_turns(
-            self.runtime(),
-            alloc,
-            design,
-            begun,
-            most,
-        )?;
-        match unrefused {
-            Some(unrefused) => end_in_turn(self.runtime(), alloc, design, begun, unrefused),
+        let mut shards = shards;
+        let mut strands = strands;
+        let most = turns_before(self.gate(), self.workers());
+        match make_turns(&mut strands, &mut shards, design, Some(most))? {
+            Some(unrefused) => end_in_turn(alloc, shards, strands, unrefused),
             None => {
+                let tasks = tasks_of(alloc, strands.as_slice())?;
+                let begun = Begun {
+                    shards,
+                    strands,
+                    tasks,
+                };
                 let gate = self.gate();
                 run_workers(self.runtime(), alloc, design, begun, self.workers(), gate)
             }
@@ -106,19 +99,19 @@ pub trait Crew {
     }
 
     /// The lines of the entries, in texts that follow one another. As many threads as there are workers make them, each those of entries
-    /// that stand together.
+    /// that stand together; one worker starts none.
     final fn lines_of(&self, alloc: Global, entries: &[Entry]) -> Result<Vec<Vec<u8>>, OutOfMemory>
         ensures { IfOk result (λ texts. flat_map (λ text. text.items) texts.items
             ≡ flat_map entry_line entries.now) }
     {
+        if self.workers() == 1 {
+            return lines_alone(alloc, entries);
+        }
         lines_of(self.runtime(), alloc, entries, self.workers() as usize)
     }
 }
 
-/// How many turns a batch makes before the workers are started: all where there is one worker or one strand.
-fn turns_before<G: Gate>(gate: &G, workers: u32, strands: usize) -> u64 {
-    if workers == 1 || strands <= 1 {
-        return u64::MAX;
-    }
+/// How many turns a batch makes before the workers are started.
+fn turns_before<G: Gate>(gate: &G, workers: u32) -> u64 {
     gate.turns_before() as u64 * workers as u64
 }

@@ -9,13 +9,14 @@
 //! Where turns are left, the workers are started, whatever the number of shards; the first runs on the caller's thread. Each takes a
 //! strand from the queue of those that are ready and makes its turns, until the strand waits in a shard or has ended; the strands that
 //! come out of a claim go into the queue. Each shard stands behind a lock of its own, with the number of its claims and fills, on cache
-//! lines of its own: a claim or a fill takes no other lock. A strand that has ended goes to its place on the board, which is one lock more.
-//! No worker holds two locks, and each tries a lock for some microseconds before it sleeps for it. One that finds no strand ready sleeps at
-//! the board, and a push wakes one of those that sleep. Such workers do not know what points have heard. So, once they are joined, as many
-//! threads look at the journals side by side. First each reads those of some shards: it notes where the entries stand, and counts how many
-//! points each query filled. Then each looks for the fills of some shards: [`Ran::heard`] is true where entries say the cell of each child
-//! of each point that was evaluated, as they do where no worker left. What was noted is handed on ([`Ran::said`]), so that settlement need
-//! not walk over all entries on one thread. Where the journals are short, one thread looks.
+//! lines of its own: a claim or a fill takes no other lock. Under the lock the shard grants what the strand may do and records it; the
+//! strand works out the cell of a fill before that, and does what was granted after it. A strand that has ended goes to its place on the
+//! board, which is one lock more. No worker holds two locks, and each tries a lock for some microseconds before it sleeps for it. One that
+//! finds no strand ready sleeps at the board, and a push wakes one of those that sleep. Such workers do not know what points have heard. So,
+//! once they are joined, as many threads look at the journals side by side. First each reads those of some shards: it notes where the entries
+//! stand, and counts how many points each query filled. Then each looks for the fills of some shards: [`Ran::heard`] is true where entries say
+//! the cell of each child of each point that was evaluated, as they do where no worker left. What was noted is handed on ([`Ran::said`]), so
+//! that settlement need not walk over all entries on one thread. Where the journals are short, one thread looks.
 //!
 //! What a caller may rely on, under every schedule of the threads:
 //!
@@ -31,10 +32,12 @@
 //!
 //! What is under one lock is not known under another, so a worker tests it: that the shard is there with its number, that it has the
 //! claim, that the place on the board is empty. No worker makes one of these tests false; where one is, the worker takes the lock again.
-//! At the end it is tested that the counts of the strands add up to what the shards have recorded, and, after turns without locks, that
-//! each strand has ended and that there are as many shards as before. Where one of these were false, the call would not return. So
-//! `Crew::run` may wait, and no clause says that it returns, that a worker gets on, or that two workers run at once: the tests of
-//! `backsim` show the latter, by gates that hold a worker until another has come.
+//! At the end it is tested that the counts of the strands add up to what the shards have recorded. Where that were false, the call would
+//! not return. So `Crew::run` may wait where workers are started, and no clause says that it returns then, that a worker gets on, or that
+//! two workers run at once: the tests of `backsim` show the latter, by gates that hold a worker until another has come.
+//!
+//! With one worker or one strand nothing is tested, and the functions that make all turns cannot wait (`in_turn.rt`), so they are proved to
+//! end: `plan_core` promises that each strand ends with its task, and that the counts add up.
 //!
 //! [`Crew::lines_of`] makes the journal's lines of many entries by as many threads as there are workers.
 //!

@@ -38,6 +38,16 @@ fn all_texts(
     Ok(texts)
 }
 
+/// The lines of entries in one text. No thread is started.
+pub fn lines_alone(alloc: Global, entries: &[Entry]) -> Result<Vec<Vec<u8>>, OutOfMemory>
+    ensures { IfOk result (λ texts. flat_map (λ text. text.items) texts.items
+        ≡ flat_map entry_line entries.now) }
+{
+    let mut texts = Vec::with_capacity(alloc, 1)?;
+    texts.push(text_of(alloc, entries)?)?;
+    Ok(texts)
+}
+
 /// The lines of entries, in texts that follow one another. Each of so many threads makes those of as many entries that stand together.
 pub fn lines_of<R: Threads + Sync>(
     rt: &R,

@@ -1,77 +1,74 @@
 //! What the lock of a shard keeps.
 
-ghost use Rattle.std.specs.Prelude.{◌≡◌, ◌<◌, ◌-◌, ◌^◌, true, None, IfSome, IsSome};
+ghost use Rattle.std.specs.Prelude.{◌≡◌, ◌<◌, ◌-◌, ◌^◌, true, None, IfOk, IfSome, IsSome};
 ghost use Rattle.batch_meaning.specs.Batches.{shard_number};
 ghost use Rattle.journal_meaning.specs.States.{holder};
 ghost use Rattle.strand_meaning.specs.Strands.{next as next_of};
-ghost use Rattle.strand_meaning.specs.declared.Next.TheVariants.{Ask};
+ghost use Rattle.strand_meaning.specs.declared.Next.TheVariants as next;
 ghost use Rattle.valid_intervals.specs.Cells.{stored_at};
 ghost use Rattle.valid_intervals.specs.declared.Point.{Point};
 ghost use Rattle.memo_shards.specs.Asks.{OfPark};
-ghost use Rattle.memo_shards.specs.Steps.{MayStep, OfStep};
+ghost use Rattle.memo_shards.specs.Steps.{MayStep};
+ghost use Rattle.memo_shards.specs.Grants.{IsGranted, IsRequest, OfGrant, step_of};
+ghost use Rattle.memo_shards.specs.declared.request.Request.TheVariants.{Ask};
 ghost use Rattle.worker_gate.specs.Ends.{booked_in};
 
 use demand_points::{BatchName, Strand};
-use design::Design;
-use memo_shards::{Shard, Step};
+use memo_shards::{Grant, Request, Shard};
 use owned_text::OutOfMemory;
-use strand_meaning::Next;
 use valid_intervals::Point;
 
 /// A shard, and how many claims and fills it has recorded.
 #[derive(Drop)]
 pub struct CountedShard<B: BatchName> {
-    pub shard: Shard<B>,
     pub booked: u64,
+    pub shard: Shard<B>,
     ghost amount: { booked ≡ booked_in shard },
 }
 
 impl<B: BatchName> CountedShard<B> {
     /// Whether the shard with this number is this one, can count one more claim or fill, and has the claim that the strand's next step
     /// ends.
-    pub fn can_step(&self, strand: &Strand<B>, next: Next, number: usize) -> bool
-        requires home { (p : Point) → next ≡ Ask p → number ≡ shard_number p.signal B.batch.shards }
-        ensures stands { result ≡ true → MayStep B.batch self.now.shard next strand.now }
+    pub fn can_grant(&self, strand: &Strand<B>, request: Request, number: usize) -> bool
+        requires home { (p : Point) → request ≡ Ask p
+            → number ≡ shard_number p.signal B.batch.shards }
+        ensures stands { result ≡ true → MayStep B.batch self.now.shard (step_of request)
+            strand.now }
         ensures room { result ≡ true → self.now.booked < 2 ^ 64 - 1 }
     {
-        let stands = match next {
-            Next::Ask(_) => self.shard.number() as usize == number,
-            Next::Fill(p) => self.shard.holds(p, strand.query().number),
-            Next::Drop(p) => self.shard.holds(p, strand.query().number),
-            Next::Done => false,
+        let stands = match request {
+            Request::Ask(_) => self.shard.number() as usize == number,
+            Request::Fill(p, _) => self.shard.holds(p, strand.query().number),
+            Request::Drop(p) => self.shard.holds(p, strand.query().number),
         };
         stands && self.booked < u64::MAX
     }
 
-    /// Makes the next step of the strand, and books a claim or a fill.
-    pub fn step(
-        &mut self,
-        strand: &mut Strand<B>,
-        design: &Design,
-        next: Next,
-    ) -> Result<Step<B>, OutOfMemory>
+    /// Makes the shard's half of the strand's next step, and books a claim or a fill.
+    pub fn grant(&mut self, strand: &Strand<B>, request: Request) -> Result<Grant<B>, OutOfMemory>
         requires room { self.old.booked < 2 ^ 64 - 1 }
-        requires design { design.now.circuit ≡ B.batch.circuit }
-        requires next { next_of strand.old.strand ≡ next }
-        requires stands { MayStep B.batch self.old.shard next strand.old }
-        ensures { OfStep B.batch self.old.shard self.new.shard next strand.old strand.new result }
+        requires request { IsRequest B.batch strand.now request }
+        requires stands { MayStep B.batch self.old.shard (step_of request) strand.now }
+        ensures grant { OfGrant B.batch self.old.shard self.new.shard (step_of request) strand.now
+            result }
+        ensures right { IfOk result (IsGranted B.batch strand.now) }
     {
         let CountedShard { shard, booked } = self;
-        let came = shard.step(strand, design, next)?;
-        match &came {
-            Step::Holds => *booked += 1,
-            Step::Filled(_) => *booked += 1,
-            Step::Heard => {}
-            Step::Taken => {}
-            Step::Refused => {}
-            Step::Dropped(_) => {}
+        let grant = shard.grant(strand, request)?;
+        match &grant {
+            Grant::Claimed(_) => *booked += 1,
+            Grant::Filled(_, _) => *booked += 1,
+            Grant::Told(_) => {}
+            Grant::Taken => {}
+            Grant::Refused => {}
+            Grant::Dropped(_) => {}
         }
-        Ok(came)
+        Ok(grant)
     }
 
     /// Lets the strand wait at the claimed point.
     pub fn park(&mut self, strand: Strand<B>, p: Point) -> Result<(), (Strand<B>, OutOfMemory)>
-        requires asks { next_of strand.strand ≡ Ask p }
+        requires asks { next_of strand.strand ≡ next.Ask p }
         requires missed { stored_at self.old.shard.shard.state.cells p ≡ None }
         requires claimed { IsSome (holder self.old.shard.shard.state.claims p) }
         ensures { OfPark self.old.shard self.new.shard p strand result }

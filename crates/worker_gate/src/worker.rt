@@ -2,7 +2,8 @@
 
 ghost use Rattle.std.specs.Prelude.{◌≡◌, ◌<◌, ◌-◌, ◌^◌, true, false, IsSome, IfSome};
 ghost use Rattle.std.specs.Sync.Mutex.{mutex_guard_value};
-ghost use Rattle.memo_shards.specs.Steps.{MayStep, step_point};
+ghost use Rattle.memo_shards.specs.Steps.{MayStep};
+ghost use Rattle.memo_shards.specs.Grants.{IsGranted, step_of};
 ghost use Rattle.ready_queue.specs.Queue.{IsPassOf};
 ghost use Rattle.strand_meaning.specs.Strands.{next as next_of};
 ghost use Rattle.strand_meaning.specs.declared.Next.TheVariants.{Done};
@@ -13,12 +14,11 @@ use crate::slot::Slot;
 use crossbeam_utils::CachePadded;
 use demand_points::{BatchName, Strand};
 use design::Design;
-use memo_shards::{Step, shard_number, step_point};
+use memo_shards::{Grant, Request, Step, follow, request_of, shard_number};
 use ready_queue::{QueuePass, ReadyQueue};
 use std::hint::spin_loop;
 use std::sync::{Condvar, Mutex, MutexGuard, Wait};
 use strand_meaning::Next;
-use valid_intervals::Point;
 
 /// How often a lock is tried before the thread sleeps for it.
 const TRIES: u32 = 50;
@@ -67,8 +67,8 @@ fn pause() {
     }
 }
 
-// Takes the lock. A worker makes one step under a lock, which takes a microsecond or two. To sleep and to be woken takes longer. So the
-// lock is tried for as long as a step takes before the thread sleeps.
+// Takes the lock. A worker makes the shard's half of one step under a lock, which takes a microsecond at most. To sleep and to be woken takes
+// longer. So the lock is tried for some microseconds before the thread sleeps.
 fn take_lock<'a, T, R: Wait>(rt: &R, lock: &'a Mutex<T>) -> MutexGuard<'a, T> {
     for _ in 0..TRIES {
         if let Some(guard) = lock.try_lock() {
@@ -77,6 +77,23 @@ fn take_lock<'a, T, R: Wait>(rt: &R, lock: &'a Mutex<T>) -> MutexGuard<'a, T> {
         pause();
     }
     lock.lock(rt)
+}
+
+// Lets the strand follow what was granted, after the lock. A strand that is refused memory for its claim has none: the batch ends.
+fn end_turn<B: BatchName>(strand: Strand<B>, design: &Design, grant: Grant<B>) -> TurnEnd<B>
+    requires design { design.now.circuit ≡ B.batch.circuit }
+    requires granted { IsGranted B.batch strand grant }
+{
+    let mut strand = strand;
+    match follow(&mut strand, design, grant) {
+        Ok(Step::Heard) => TurnEnd::Goes(strand),
+        Ok(Step::Holds) => TurnEnd::Goes(strand),
+        Ok(Step::Taken) => TurnEnd::Goes(strand),
+        Ok(Step::Refused) => TurnEnd::Goes(strand),
+        Ok(Step::Filled(woken)) => TurnEnd::Wakes(strand, woken),
+        Ok(Step::Dropped(woken)) => TurnEnd::Wakes(strand, woken),
+        Err(_) => TurnEnd::NoMemory,
+    }
 }
 
 impl<B: BatchName> Shared<B> {
@@ -175,22 +192,20 @@ impl<B: BatchName> Shared<B> {
         unreachable!()
     }
 
-    // Locks the shard of the point once it can make the strand's next step.
+    // Locks the shard of the point once it can make its half of the strand's next step.
     fn lock_shard<G: Gate, R: Wait>(
         &self,
         rt: &R,
         worker: &Worker<'_, G>,
         strand: &Strand<B>,
-        next: Next,
-        p: Point,
+        request: Request,
     ) -> MutexGuard<'_, Slot<B>>
-        requires { p ≡ step_point next }
         ensures some { IsSome (mutex_guard_value result).content }
         ensures stands { IfSome (mutex_guard_value result).content
-            (λ h. MayStep B.batch h.shard next strand.now) }
+            (λ h. MayStep B.batch h.shard (step_of request) strand.now) }
         ensures room { IfSome (mutex_guard_value result).content (λ h. h.booked < 2 ^ 64 - 1) }
     {
-        let number = shard_number(p.signal, self.count as usize);
+        let number = shard_number(request.point().signal, self.count as usize);
         for _ in rt.forever() {
             let Some(lock) = self.slots.get(number) else {
                 continue;
@@ -199,7 +214,7 @@ impl<B: BatchName> Shared<B> {
             let Some(counted) = &slot.content else {
                 continue;
             };
-            if counted.can_step(strand, next, number) {
+            if counted.can_grant(strand, request, number) {
                 worker.gate.within(worker.number, number as u32);
                 return slot;
             }
@@ -207,37 +222,36 @@ impl<B: BatchName> Shared<B> {
         unreachable!()
     }
 
-    // Makes the turn of a strand whose next step is this one: at the shard of its point, under its lock. Where the point is claimed the
-    // strand waits there.
+    // Makes the turn of a strand whose next step is this one. The shard of its point makes its half under its lock, and the strand follows
+    // once the lock is free. Where the point is claimed the strand waits there, under the same lock, so that it misses no end of the claim.
     fn turn<G: Gate, R: Wait>(
         &self,
         rt: &R,
         design: &Design,
         worker: &Worker<'_, G>,
-        mut strand: Strand<B>,
+        strand: Strand<B>,
         next: Next,
     ) -> TurnEnd<B>
         requires design { design.now.circuit ≡ B.batch.circuit }
         requires next { next_of strand.strand ≡ next }
     {
-        let Some(p) = step_point(next) else {
+        let Some(request) = request_of(&strand, design, next) else {
             self.put(rt, strand);
             return TurnEnd::Rests;
         };
-        let mut slot = self.lock_shard(rt, worker, &strand, next, p);
+        let mut slot = self.lock_shard(rt, worker, &strand, request);
         let Some(counted) = &mut slot.content else {
             unreachable!();
         };
-        match counted.step(&mut strand, design, next) {
-            Ok(Step::Heard) => TurnEnd::Goes(strand),
-            Ok(Step::Holds) => TurnEnd::Goes(strand),
-            Ok(Step::Refused) => TurnEnd::Goes(strand),
-            Ok(Step::Filled(woken)) => TurnEnd::Wakes(strand, woken),
-            Ok(Step::Dropped(woken)) => TurnEnd::Wakes(strand, woken),
-            Ok(Step::Taken) => match counted.park(strand, p) {
+        match counted.grant(&strand, request) {
+            Ok(Grant::Taken) => match counted.park(strand, request.point()) {
                 Ok(()) => TurnEnd::Rests,
                 Err(_) => TurnEnd::NoMemory,
             },
+            Ok(grant) => {
+                drop(slot);
+                end_turn(strand, design, grant)
+            }
             Err(_) => TurnEnd::NoMemory,
         }
     }

@@ -38,8 +38,3 @@ tags places = map tag places
 
 abbrev pub tag_of : Demand → Option NumberedStrand
 tag_of s = Some (numbered_strand s)
-
--- the strand in a place, if there is one
-abbrev pub one_in : Option Demand → List Demand
-one_in None = []
-one_in (Some s) = s ∷ []

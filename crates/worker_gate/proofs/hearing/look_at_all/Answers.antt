@@ -3,11 +3,11 @@ use Rattle.std.proofs.lemmas.Nat.{mod_below}
 use Rattle.std.proofs.lemmas.Option.{slice_get_within}
 use Rattle.asked_cells.specs.Memos.{entries_of}
 use Rattle.worker_gate.proofs.Heard.{fills-heard}
-use Rattle.worker_gate.proofs.InTurn.{lawful-of}
+use Rattle.plan_core.proofs.InTurn.{lawful-known}
 use Rattle.worker_gate.proofs.hearing.look_at_all.Goals as goal
 
 pub looks-requires-clause-lawful : goal.looks-requires-clause-lawful
-looks-requires-clause-lawful g c κs within = lawful-of g.B.BatchName.batch g.B.BatchName.opening c.args.shards.now c.know_all.ensures c.requires.shards
+looks-requires-clause-lawful g c κs within = lawful-known g.B.BatchName.batch g.B.BatchName.opening c.args.shards.now c.know_all.ensures c.requires.shards
 
 pub returns-clause-heard : goal.returns-clause-heard
 returns-clause-heard g c = λ yes q p x contains.

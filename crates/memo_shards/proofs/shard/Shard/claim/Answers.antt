@@ -89,11 +89,12 @@ returns-in-Ok g c =
     let unclaimed = none-claimed b o s.number s.store s.claims es a p none in
     let items : c.push_reserved.new.self.items ≡ es ++ entry.Claimed q p ∷ [] =
     c.push_reserved.ensures.items ∙ ap (λ (l : List Entry). l ++ entry.Claimed c.query-q.result.number p ∷ []) c.make_room.ensures.items
-    ∙ ap (λ (x : Query). es ++ entry.Claimed x.number p ∷ []) c.query-q.ensures in (
+    ∙ ap (λ (x : Query). es ++ entry.Claimed x.number p ∷ []) c.query-q.ensures in
+    let given = claimed-shown b o s.number s.store s.claims es a w c.facts.ensures p c.requires.asks here missed unclaimed c.requires.within c.push_reserved.new.self.items items in (
       refl,
       subst (λ (v : KeptShard). ClaimsIt b v (record { number = s.number; shard = shard_at o c.push_reserved.new.self.items; waiting = waits_in c.claim.new.self }) p w c.take_claim.new.self) c.self.view_is
           (subst (λ (l : Claims Demand). ClaimsIt b (record { number = s.number; shard = shard_at o es; waiting = waits_in s.claims }) (record { number = s.number; shard = shard_at o c.push_reserved.new.self.items; waiting = waits_in l }) p w c.take_claim.new.self) (sym made)
-          (claimed-shown b o s.number s.store s.claims es a w c.facts.ensures p c.requires.asks here missed unclaimed c.requires.within c.take_claim.new.self c.in-Ok.ensures.ok c.push_reserved.new.self.items items)),
+          (record { unfound = given.unfound; within = given.within; strand = c.in-Ok.ensures.ok; shard = given.shard })),
     )
 
 pub returns-in-Err : goal.returns-in-Err

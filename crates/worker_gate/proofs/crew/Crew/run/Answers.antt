@@ -1,46 +1,34 @@
-use Rattle.std.proofs.Common.{◌≡◌, ◌∙◌, Bool, List, Option, Some, None, IfOk, IfSome, true, ap, map, subst, sym}
+use Rattle.std.proofs.Common.{◌≡◌, ◌∙◌, Bool, List, IfOk, Some, length, map, subst, ap, rules}
+use Rattle.std.proofs.lemmas.List.{take_at}
+use Rattle.plan_machine.specs.Settle.{entries_in}
 use Rattle.demand_points.specs.declared.strand.Task.{Task}
 use Rattle.memo_shards.specs.KeptShards.{KeptShard}
 use Rattle.plan_core.specs.InTurn.{AllChildrenCovered}
 use Rattle.plan_core.specs.Parts.{shards_in}
-use Rattle.plan_machine.specs.Settle.{entries_in}
-use Rattle.asked_cells.specs.declared.said.Said.{Said}
-use Rattle.asked_cells.specs.FillCounts.{HaveCounted}
-use Rattle.worker_gate.specs.Ends.{task_of, AreEnds, AreInOrder}
-use Rattle.worker_gate.proofs.InTurn.{if-ok, if-ok-both}
+use Rattle.worker_gate.specs.Ends.{AreEnds, AreInOrder, task_of}
+use Rattle.worker_gate.proofs.InTurn.{shards-written, heard-written}
 use Rattle.worker_gate.proofs.crew.Crew.run.Goals as goal
-
-pub returns-then-not-are_known-clause-ended : goal.returns-then-not-are_known-clause-ended
-returns-then-not-are_known-clause-ended g c =
-    let tasks : c.in_ok-tasks.tasks.items ≡ map task_of c.args.strands.items = c.in_ok-tasks.ensures ∙ ap (map task_of) c.as_slice.ensures.value in
-    subst (λ (ts : List Task). IfOk c.run_workers.result (λ ran. AreEnds ran.strands ts ran.counts)) tasks c.run_workers.ensures.ended
 
 pub returns-in-Some-clause-ended : goal.returns-in-Some-clause-ended
 returns-in-Some-clause-ended g c =
-    let kept = c.in_ok-begun.ensures.tasks in
-    let same : c.in_ok-begun.field-0.begun.tasks.items ≡ c.in_ok-tasks.tasks.items = cc kept in
-    let tasks : c.in_ok-begun.field-0.begun.tasks.items ≡ map task_of c.args.strands.items = same ∙ c.in_ok-tasks.ensures ∙ ap (map task_of) c.as_slice.ensures.value in
-    subst (λ (ts : List Task). IfOk c.end_in_turn.result (λ ran. AreEnds ran.strands ts ran.counts)) tasks c.end_in_turn.ensures.ended
+    let len : length c.make_turns.new.strands ≡ c.args.strands.len = search rules in
+    let tasks : map task_of c.make_turns.new.strands ≡ map task_of c.args.strands.items = c.make_turns.ensures.tasks ∙ ap (map task_of) c.deref_mut.ensures.value in
+    subst (λ (ts : List Task). IfOk c.end_in_turn.result (λ r. AreEnds r.strands ts r.counts)) (ap (map task_of) (take_at c.make_turns.new.strands _ c.args.strands.len len) ∙ tasks) c.end_in_turn.ensures.ended
 
 pub returns-in-Some-clause-order : goal.returns-in-Some-clause-order
 returns-in-Some-clause-order g c =
-    if-ok c.end_in_turn.result (λ ran. ran.shards ≡ c.in_ok-begun.field-0.begun.shards.items) (λ ran. AreInOrder ran.shards) (λ ran e. subst AreInOrder (sym e) c.in_ok-begun.ensures.order) c.end_in_turn.ensures.shards
+    let len : length c.make_turns.new.shards ≡ c.args.shards.len = search rules in
+    shards-written c.end_in_turn.result (λ r. r.shards) c.args.shards.len c.make_turns.new.shards _ c.end_in_turn.ensures.shards len AreInOrder c.make_turns.ensures.order
 
 pub returns-in-Some-clause-heard : goal.returns-in-Some-clause-heard
-returns-in-Some-clause-heard g c = λ started.
+returns-in-Some-clause-heard g c = λ _.
     let P : List KeptShard → Type 0 = λ ms. AllChildrenCovered g.B.BatchName.batch.circuit (entries_in (shards_in ms)) in
-    let covered : c.in-Some.unrefused ≡ true → P c.in_ok-begun.field-0.begun.shards.items = λ u. c.in_ok-begun.ensures.heard started (c.in-Some.is ∙ ap (λ (x : Bool). Some x) u) in
-    if-ok-both c.end_in_turn.result (λ ran. ran.shards ≡ c.in_ok-begun.field-0.begun.shards.items) (λ ran. ran.heard ≡ c.in-Some.unrefused) (λ ran. ran.heard ≡ true → P ran.shards)
-    (λ ran e h k. subst P (sym e) (covered (sym h ∙ k))) c.end_in_turn.ensures.shards c.end_in_turn.ensures.heard
+    let len : length c.make_turns.new.shards ≡ c.args.shards.len = search rules in
+    heard-written c.end_in_turn.result (λ r. r.shards) (λ r. r.heard) c.args.shards.len c.make_turns.new.shards _ c.in-Some.unrefused c.end_in_turn.ensures.shards c.end_in_turn.ensures.heard len P
+    (λ u. c.in_ok-unrefused.ensures.heard (c.in-Some.is ∙ ap (λ (x : Bool). Some x) u))
 
-pub returns-in-Some-clause-said : goal.returns-in-Some-clause-said
-returns-in-Some-clause-said g c =
-    if-ok c.end_in_turn.result (λ ran. ran.said ≡ None) (λ ran. IfSome ran.said (λ said. HaveCounted (entries_in (shards_in ran.shards)) said.fills.items))
-    (λ ran e. subst (λ (o : Option Said). IfSome o (λ said. HaveCounted (entries_in (shards_in ran.shards)) said.fills.items)) (sym e) tt) c.end_in_turn.ensures.said
-
-pub returns-in-None-clause-ended : goal.returns-in-None-clause-ended
-returns-in-None-clause-ended g c =
-    let kept = c.in_ok-begun.ensures.tasks in
-    let same : c.in_ok-begun.field-0.begun.tasks.items ≡ c.in_ok-tasks.tasks.items = cc kept in
-    let tasks : c.in_ok-begun.field-0.begun.tasks.items ≡ map task_of c.args.strands.items = same ∙ c.in_ok-tasks.ensures ∙ ap (map task_of) c.as_slice.ensures.value in
-    subst (λ (ts : List Task). IfOk c.run_workers-in-None.result (λ ran. AreEnds ran.strands ts ran.counts)) tasks c.run_workers-in-None.ensures.ended
+pub returns-in_ok-tasks-in-None-clause-ended : goal.returns-in_ok-tasks-in-None-clause-ended
+returns-in_ok-tasks-in-None-clause-ended g c =
+    let len : length c.make_turns.new.strands ≡ c.args.strands.len = search rules in
+    let tasks : map task_of c.make_turns.new.strands ≡ map task_of c.args.strands.items = c.make_turns.ensures.tasks ∙ ap (map task_of) c.deref_mut.ensures.value in
+    subst (λ (ts : List Task). IfOk c.run_workers.result (λ r. AreEnds r.strands ts r.counts)) (c.in_ok-tasks-in-None.ensures ∙ ap (map task_of) (c.as_slice.ensures.value ∙ take_at c.make_turns.new.strands _ c.args.strands.len len) ∙ tasks) c.run_workers.ensures.ended

@@ -11,10 +11,10 @@ use Rattle.demand_points.specs.Demands.{Demand}
 use Rattle.memo_shards.specs.KeptShards.{KeptShard, shard_at}
 use Rattle.memo_shards.specs.inner.KeptShards.{waits_in}
 use Rattle.memo_shards.specs.inner.View.{Agrees}
-use Rattle.memo_shards.specs.Ends.{DropsIt}
+use Rattle.memo_shards.specs.Grants.{TakesBack}
 use Rattle.memo_shards.proofs.Entries.{some-held}
 use Rattle.memo_shards.proofs.Endings.{dropped-agrees, dropped-shown}
-use Rattle.memo_shards.proofs.shard.Shard.drop_top.Goals as goal
+use Rattle.memo_shards.proofs.shard.Shard.take_back.Goals as goal
 
 pub invariant_of-self : goal.invariant_of-self
 invariant_of-self g c =
@@ -28,9 +28,9 @@ invariant_of-self g c =
     let q = w.strand.query.number in
     let held : holder (shard_at o es).state.claims p ≡ Some q = subst (λ (v : KeptShard). holder v.shard.state.claims p ≡ Some q) (sym c.self.view_is) c.requires.claimed in
     let items : c.push_reserved.new.self.items ≡ es ++ entry.Dropped q p ∷ [] = c.push_reserved.ensures.items ∙ ap (λ (x : Query). es ++ entry.Dropped x.number p ∷ []) c.query-q.ensures in
-    let fewer : length c.take-woken.new.self + 1 ≡ length s.claims = ap (λ (l : Claims Demand). length l + 1) c.take-woken.ensures.rest ∙ length-removed (is_at (point_cmp p)) s.claims (some-held b o s.number s.store s.claims es a p q held) in
+    let fewer : length c.take-waited.new.self + 1 ≡ length s.claims = ap (λ (l : Claims Demand). length l + 1) c.take-waited.ensures.rest ∙ length-removed (is_at (point_cmp p)) s.claims (some-held b o s.number s.store s.claims es a p q held) in
     record {
-      agrees = subst (λ (l : List Entry). Agrees b o s.number s.store c.take-woken.new.self l) (sym items) (subst (λ (l : Claims Demand). Agrees b o s.number s.store l (es ++ entry.Dropped q p ∷ [])) (sym c.take-woken.ensures.rest)
+      agrees = subst (λ (l : List Entry). Agrees b o s.number s.store c.take-waited.new.self l) (sym items) (subst (λ (l : Claims Demand). Agrees b o s.number s.store l (es ++ entry.Dropped q p ∷ [])) (sym c.take-waited.ensures.rest)
           (dropped-agrees b o s.number s.store s.claims es a q p held c.facts.ensures));
       room = omega (arith, c.push_reserved.ensures.len, c.push_reserved.ensures.capacity, c.self.invariant.room, fewer);
     }
@@ -46,8 +46,6 @@ returns g c =
     let w = c.args.strand.now in
     let q = w.strand.query.number in
     let held : holder (shard_at o es).state.claims p ≡ Some q = subst (λ (v : KeptShard). holder v.shard.state.claims p ≡ Some q) (sym c.self.view_is) c.requires.claimed in
-    let items : c.push_reserved.new.self.items ≡ es ++ entry.Dropped q p ∷ [] = c.push_reserved.ensures.items ∙ ap (λ (x : Query). es ++ entry.Dropped x.number p ∷ []) c.query-q.ensures in (
-      refl,
-      subst (λ (v : KeptShard). DropsIt v (record { number = s.number; shard = shard_at o c.push_reserved.new.self.items; waiting = waits_in c.take-woken.new.self }) p w c.drop_top.new.self c.take-woken.result.items) c.self.view_is
-          (dropped-shown b o s.number s.store s.claims es a q p held c.facts.ensures w c.drop_top.new.self refl c.drop_top.ensures.steps c.take-woken.result.items c.take-woken.ensures.waiters c.take-woken.new.self c.take-woken.ensures.rest c.push_reserved.new.self.items items),
-    )
+    let items : c.push_reserved.new.self.items ≡ es ++ entry.Dropped q p ∷ [] = c.push_reserved.ensures.items ∙ ap (λ (x : Query). es ++ entry.Dropped x.number p ∷ []) c.query-q.ensures in
+    subst (λ (v : KeptShard). TakesBack v (record { number = s.number; shard = shard_at o c.push_reserved.new.self.items; waiting = waits_in c.take-waited.new.self }) p w c.take-waited.result.items) c.self.view_is
+    (dropped-shown b o s.number s.store s.claims es a q p held c.facts.ensures w refl c.take-waited.result.items c.take-waited.ensures.waiters c.take-waited.new.self c.take-waited.ensures.rest c.push_reserved.new.self.items items)

@@ -15,11 +15,11 @@ use Rattle.demand_points.specs.Demands.{Demand}
 use Rattle.memo_shards.specs.KeptShards.{KeptShard, shard_at}
 use Rattle.memo_shards.specs.inner.KeptShards.{waits_in}
 use Rattle.memo_shards.specs.inner.View.{Agrees}
-use Rattle.memo_shards.specs.Ends.{FillsIt}
+use Rattle.memo_shards.specs.Grants.{TakesCell}
 use Rattle.memo_shards.specs.inner.Ends.{after_eviction}
 use Rattle.memo_shards.proofs.Entries.{some-held}
 use Rattle.memo_shards.proofs.Endings.{filled-fits, waiters-ask, answers-all, filled-items, filled-agrees, filled-shown}
-use Rattle.memo_shards.proofs.shard.Shard.fill_top.Goals as goal
+use Rattle.memo_shards.proofs.shard.Shard.fill.Goals as goal
 
 pub record_fill-requires-clause-fits : goal.record_fill-requires-clause-fits
 record_fill-requires-clause-fits g c =
@@ -32,25 +32,8 @@ record_fill-requires-clause-fits g c =
     let w = c.args.strand.now in
     let q = w.strand.query.number in
     let held : holder (shard_at o es).state.claims p ≡ Some q = subst (λ (v : KeptShard). holder v.shard.state.claims p ≡ Some q) (sym c.self.view_is) c.requires.claimed in
-    let right : c.top_cell-cell.result ≡ cell_at b.circuit p = c.top_cell-cell.ensures p c.requires.fills in
-    filled-fits b o s.number s.store s.claims es a q p held c.top_cell-cell.result right
-
-pub hear_all-requires : goal.hear_all-requires
-hear_all-requires g c =
-    let b = g.B.BatchName.batch in
-    let s = c.self.inside in
-    let o = g.B.BatchName.opening s.number in
-    let es = s.journal.items in
-    let a = c.self.invariant.agrees in
-    let p = c.args.p in
-    let w = c.args.strand.now in
-    let q = w.strand.query.number in
-    let held : holder (shard_at o es).state.claims p ≡ Some q = subst (λ (v : KeptShard). holder v.shard.state.claims p ≡ Some q) (sym c.self.view_is) c.requires.claimed in
-    let right : c.top_cell-cell.result ≡ cell_at b.circuit p = c.top_cell-cell.ensures p c.requires.fills in
-    record {
-      design = c.requires.design;
-      answer = answers-all b.circuit p c.top_cell-cell.result right c.take-woken.result.items (waiters-ask s.claims a.asks p (claim_at s.claims p) refl c.take-woken.result.items c.take-woken.ensures.waiters);
-    }
+    let right : c.args.cell.now ≡ cell_at b.circuit p = c.requires.right in
+    filled-fits b o s.number s.store s.claims es a q p held c.args.cell.now right
 
 pub invariant_of-self-2 : goal.invariant_of-self-2
 invariant_of-self-2 g c =
@@ -63,22 +46,22 @@ invariant_of-self-2 g c =
     let w = c.args.strand.now in
     let q = w.strand.query.number in
     let held : holder (shard_at o es).state.claims p ≡ Some q = subst (λ (v : KeptShard). holder v.shard.state.claims p ≡ Some q) (sym c.self.view_is) c.requires.claimed in
-    let right : c.top_cell-cell.result ≡ cell_at b.circuit p = c.top_cell-cell.ensures p c.requires.fills in
+    let right : c.args.cell.now ≡ cell_at b.circuit p = c.requires.right in
     let items : c.record_fill.new.journal.items ≡ (filled_shard b.capacity q p (cell_at b.circuit p) (shard_at o es)).journal =
     filled-items b o s.number s.store s.claims es a q p held c.facts.ensures c.record_fill.new.journal.items
     (subst (λ (z : Cell). c.record_fill.new.journal.items ≡ after_eviction (cond (pushes_out (cell_for p z) s.store) (last_key s.store.cells) None) es ++ entry.Filled q p z ∷ []) right
-    (c.in_ok-record_fill.ensures.items ∙ ap (λ (x : Query). after_eviction (cond (pushes_out (cell_for p c.top_cell-cell.result) s.store) (last_key s.store.cells) None) es ++ entry.Filled x.number p c.top_cell-cell.result ∷ []) c.query-q.ensures)) in
-    let fewer : length c.take-woken.new.self + 1 ≡ length s.claims = ap (λ (l : Claims Demand). length l + 1) c.take-woken.ensures.rest ∙ length-removed (is_at (point_cmp p)) s.claims (some-held b o s.number s.store s.claims es a p q held) in
+    (c.in_ok-record_fill.ensures.items ∙ ap (λ (x : Query). after_eviction (cond (pushes_out (cell_for p c.args.cell.now) s.store) (last_key s.store.cells) None) es ++ entry.Filled x.number p c.args.cell.now ∷ []) c.query-q.ensures)) in
+    let fewer : length c.take.new.self + 1 ≡ length s.claims = ap (λ (l : Claims Demand). length l + 1) c.take.ensures.rest ∙ length-removed (is_at (point_cmp p)) s.claims (some-held b o s.number s.store s.claims es a p q held) in
     let put : c.record_fill.new.store ≡ after_put s.store (cell_for p (cell_at b.circuit p)) = c.in_ok-record_fill.ensures.store ∙ ap (λ (z : Cell). after_put s.store (cell_for p z)) right in
     record {
-      agrees = subst (λ (l : List Entry). Agrees b o s.number c.record_fill.new.store c.take-woken.new.self l) (sym items)
-          (subst (λ (l : Claims Demand). Agrees b o s.number c.record_fill.new.store l (filled_shard b.capacity q p (cell_at b.circuit p) (shard_at o es)).journal) (sym c.take-woken.ensures.rest)
+      agrees = subst (λ (l : List Entry). Agrees b o s.number c.record_fill.new.store c.take.new.self l) (sym items)
+          (subst (λ (l : Claims Demand). Agrees b o s.number c.record_fill.new.store l (filled_shard b.capacity q p (cell_at b.circuit p) (shard_at o es)).journal) (sym c.take.ensures.rest)
           (filled-agrees b o s.number s.store s.claims es a q p held c.facts.ensures c.record_fill.new.store put));
       room = omega (arith, c.in_ok-record_fill.ensures.len, c.in_ok-record_fill.ensures.capacity, c.self.invariant.room, fewer);
     }
 
-pub returns : goal.returns
-returns g c =
+pub returns-clause-taken : goal.returns-clause-taken
+returns-clause-taken g c =
     let b = g.B.BatchName.batch in
     let s = c.self.inside in
     let o = g.B.BatchName.opening s.number in
@@ -88,12 +71,18 @@ returns g c =
     let w = c.args.strand.now in
     let q = w.strand.query.number in
     let held : holder (shard_at o es).state.claims p ≡ Some q = subst (λ (v : KeptShard). holder v.shard.state.claims p ≡ Some q) (sym c.self.view_is) c.requires.claimed in
-    let right : c.top_cell-cell.result ≡ cell_at b.circuit p = c.top_cell-cell.ensures p c.requires.fills in
+    let right : c.args.cell.now ≡ cell_at b.circuit p = c.requires.right in
     let items : c.record_fill.new.journal.items ≡ (filled_shard b.capacity q p (cell_at b.circuit p) (shard_at o es)).journal =
     filled-items b o s.number s.store s.claims es a q p held c.facts.ensures c.record_fill.new.journal.items
     (subst (λ (z : Cell). c.record_fill.new.journal.items ≡ after_eviction (cond (pushes_out (cell_for p z) s.store) (last_key s.store.cells) None) es ++ entry.Filled q p z ∷ []) right
-    (c.in_ok-record_fill.ensures.items ∙ ap (λ (x : Query). after_eviction (cond (pushes_out (cell_for p c.top_cell-cell.result) s.store) (last_key s.store.cells) None) es ++ entry.Filled x.number p c.top_cell-cell.result ∷ []) c.query-q.ensures)) in (
-      refl,
-      subst (λ (v : KeptShard). FillsIt b v (record { number = s.number; shard = shard_at o c.record_fill.new.journal.items; waiting = waits_in c.take-woken.new.self }) p w c.finish_with.new.self c.hear_all.new.list.items) c.self.view_is
-          (filled-shown b o s.number s.store s.claims es a q p held c.facts.ensures w c.finish_with.new.self refl c.finish_with.ensures c.take-woken.result.items c.hear_all.new.list.items c.take-woken.ensures.waiters c.hear_all.ensures c.take-woken.new.self c.take-woken.ensures.rest c.record_fill.new.journal.items items),
-    )
+    (c.in_ok-record_fill.ensures.items ∙ ap (λ (x : Query). after_eviction (cond (pushes_out (cell_for p c.args.cell.now) s.store) (last_key s.store.cells) None) es ++ entry.Filled x.number p c.args.cell.now ∷ []) c.query-q.ensures)) in
+    subst (λ (v : KeptShard). TakesCell b v (record { number = s.number; shard = shard_at o c.record_fill.new.journal.items; waiting = waits_in c.take.new.self }) p w c.args.cell.now c.take.result.items) c.self.view_is
+    (filled-shown b o s.number s.store s.claims es a q p held c.facts.ensures w refl c.args.cell.now right c.take.result.items c.take.ensures.waiters c.take.new.self c.take.ensures.rest c.record_fill.new.journal.items items)
+
+pub returns-clause-asked : goal.returns-clause-asked
+returns-clause-asked g c =
+    let b = g.B.BatchName.batch in
+    let s = c.self.inside in
+    let p = c.args.p in
+    let a = c.self.invariant.agrees in
+    answers-all b.circuit p c.args.cell.now c.requires.right c.take.result.items (waiters-ask s.claims a.asks p (claim_at s.claims p) refl c.take.result.items c.take.ensures.waiters)
