@@ -63,7 +63,7 @@ module _ (setup : Setup) where
     served = session;
     replied = prefix-same now.out;
     recorded = prefix-same (journal_of setup now);
-    kept = ([], sym (append-nil now.dumps));
+    dumped = ([], sym (append-nil now.dumps));
     begun = none-begun now later now.out (journal_of setup now) now.dumps (record { out_is = refl; journal_is = refl; dumps_are = refl });
   }
 
@@ -78,7 +78,7 @@ module _ (setup : Setup) where
       → (out ≡ next.out) ⊎ (journal ≡ journal_of setup now) → (out ≡ now.out) ⊎ (dumps ≡ next.dumps)
       → (length out ≡ length next.out → length journal ≡ length (journal_of setup next) → dumps ≡ next.dumps)
       → Within units (unit ∷ []) (λ done later. IsBroken setup done later out journal dumps)
-  broken-at units unit now next out journal dumps session served before above replied recorded kept begun replies_first dumps_first whole = cases replied.0 recorded.0 replied.1 recorded.1
+  broken-at units unit now next out journal dumps session served before above replied recorded dumped begun replies_first dumps_first whole = cases replied.0 recorded.0 replied.1 recorded.1
     where
       part : length out + length journal < length next.out + length (journal_of setup next) → Within units (unit ∷ []) (λ done later. IsBroken setup done later out journal dumps)
       part cut = within-none units (unit ∷ []) (λ done later. IsBroken setup done later out journal dumps) (record {
@@ -86,7 +86,7 @@ module _ (setup : Setup) where
         served = session;
         replied = before;
         recorded = above;
-        kept = kept;
+        dumped = dumped;
         begun = inr (record { next = next; served = served; replied = replied; recorded = recorded; dumped = begun; replies_first = replies_first; dumps_first = dumps_first; cut = cut });
       })
 
@@ -113,7 +113,7 @@ module _ (setup : Setup) where
   pub dump-broken-at : (units : List ScriptUnit) (file : List ℕ) (now : Course) (dumps : List Made) → Session setup units now
       → ((more : List Made) × (dumps ≡ now.dumps ++ more)) → AreBegun dumps (with_vcd setup now file).dumps
       → Within units (Vcd file ∷ []) (λ done later. IsBrokenInDump setup done later now.out (journal_of setup now) dumps)
-  dump-broken-at units file now dumps session kept begun =
+  dump-broken-at units file now dumps session dumped begun =
       let is = vcd-replies setup now file in
       let same = vcd-journal setup now file in
       within-none units (Vcd file ∷ []) (λ done later. IsBrokenInDump setup done later now.out (journal_of setup now) dumps) (record {
@@ -124,7 +124,7 @@ module _ (setup : Setup) where
         served = session;
         out_is = refl;
         journal_is = refl;
-        kept = kept;
+        dumped = dumped;
         begun = record {
           next = with_vcd setup now file;
           served = refl;
@@ -145,7 +145,7 @@ module _ (setup : Setup) where
     served = b.served;
     replied = b.replied;
     recorded = b.recorded;
-    kept = b.kept;
+    dumped = b.dumped;
     begun = begun-more b.now later further replies journal dumps b.begun;
   }
 
@@ -175,7 +175,7 @@ module _ (setup : Setup) where
     served = b.served;
     out_is = b.out_is;
     journal_is = b.journal_is;
-    kept = b.kept;
+    dumped = b.dumped;
     begun = b.begun;
   }
 

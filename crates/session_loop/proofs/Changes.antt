@@ -153,7 +153,7 @@ pub journal-open : (old new : FilesState) → old.created ≡ 0 → new ≡ with
 journal-open old new none is = subst (λ (f : FilesState). Contains f.unfinished 0) (sym is) (Contains-append_right old.unfinished (old.created ∷ []) 0 (0, omega arith, none))
 
 -- where no file was created, none is unfinished
-none-unfinished : (files : ℕ) (unfinished : List ℕ) → files ≡ 0 → Places files unfinished → unfinished ≡ []
+pub none-unfinished : (files : ℕ) (unfinished : List ℕ) → files ≡ 0 → Places files unfinished → unfinished ≡ []
 none-unfinished files [] none places = refl
 none-unfinished files (k ∷ ks) none places = let below : k < files = All-head (λ i. i < files) k ks places.0 in absurd (omega (arith, below, none))
 

@@ -214,8 +214,8 @@ module _ (service : Service) (desk : Desk) (before : Seen) (ready : IsReady (mem
     leads : (names : List (List ℕ)) (now : Course) → Keeps (session_of service names) desk now → with_dump now file wires ≡ with_vcd (session_of service names) now file
     leads names now keeps = sym (line-makes (session_of service names) now file desk.dumps keeps.dumps last has free)
 
-    one-more : (now : Course) → now.dumps ++ dump ∷ [] ≡ (with_dump now file wires).dumps
-    one-more now = ap (λ bytes. now.dumps ++ record { name = file; bytes = bytes } ∷ []) text-is
+    dump-added : (now : Course) → now.dumps ++ dump ∷ [] ≡ (with_dump now file wires).dumps
+    dump-added now = ap (λ bytes. now.dumps ++ record { name = file; bytes = bytes } ∷ []) text-is
 
     go-on : (made : List Made → Type 0) (names : List (List ℕ)) (now : Course) (more : List Made) → Keeps (session_of service names) desk now → Adds before.made made before.outputs.files.created more → (name journal : List ℕ)
         → before.made (session_files name journal now.dumps) → made (session_files name journal (now.dumps ++ more))
@@ -285,7 +285,7 @@ module _ (service : Service) (desk : Desk) (before : Seen) (ready : IsReady (mem
                 };
               };
               replied = (line, ap (λ l. now.out ++ l) (sym line-is), replied);
-              recorded = λ name was. subst (λ l. made (session_files name (journal_of setup now) l)) (one-more now) (go-on made names now (dump ∷ []) keeps adds name (journal_of setup now) was);
+              recorded = λ name was. subst (λ l. made (session_files name (journal_of setup now) l)) (dump-added now) (go-on made names now (dump ∷ []) keeps adds name (journal_of setup now) was);
             };
         state = dump-changes before.outputs.files files before.outputs.replies faults is calm;
       }
@@ -309,7 +309,7 @@ module _ (service : Service) (desk : Desk) (before : Seen) (ready : IsReady (mem
                   (broken-at setup units (Vcd file) now next (now.out ++ replied.0) journal all session (leads names now keeps)
                   (prefix-more now.out replied.0) (prefix-same journal)
                   (prefix-behind now.out replied.0 (vcd_line file (replies.Made (length wires))) (subst (IsPrefix replied.0) line-is replied.1)) (prefix-same journal)
-                  (dump ∷ [], refl) (subst (AreBegun all) (one-more now) (begun-same all)) (inr refl) (inr (one-more now)) (λ o j. one-more now));
+                  (dump ∷ [], refl) (subst (AreBegun all) (dump-added now) (begun-same all)) (inr refl) (inr (dump-added now)) (λ o j. dump-added now));
               replied = (replied.0, refl, replied.2);
               recorded = λ name. go-on made names now (dump ∷ []) keeps adds name journal;
               count = omega (arith, stand, created, length-append now.dumps (dump ∷ []));

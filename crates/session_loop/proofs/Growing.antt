@@ -22,20 +22,20 @@ pub handed-part : {A : Type 0} {lines : List ℕ} {old new : FilesState} {made n
 handed-part (Ok x) handed part = absurd handed
 handed-part {A} {lines} {old} {new} {made} {new_made} (Err e) handed part = subst (λ stop. RecordedPart lines stop old made new new_made) (sym handed) part
 
-pub handed-behind : {A : Type 0} (kept lines left : List ℕ) {old new : FilesState} {made new_made : List Made → Type 0} {was : JournalStop} (result : Result A JournalStop) → IsErrAnd result (λ e. e ≡ was)
-    → RecordedPart (kept ++ lines) was old made new new_made → RecordsBehind kept lines left result old made new new_made
-handed-behind kept lines left (Ok x) handed part = absurd handed
-handed-behind {A} kept lines left {old} {new} {made} {new_made} (Err e) handed part = subst (λ stop. RecordedPart (kept ++ lines) stop old made new new_made) (sym handed) part
+pub handed-behind : {A : Type 0} (before lines left : List ℕ) {old new : FilesState} {made new_made : List Made → Type 0} {was : JournalStop} (result : Result A JournalStop) → IsErrAnd result (λ e. e ≡ was)
+    → RecordedPart (before ++ lines) was old made new new_made → RecordsBehind before lines left result old made new new_made
+handed-behind before lines left (Ok x) handed part = absurd handed
+handed-behind {A} before lines left {old} {new} {made} {new_made} (Err e) handed part = subst (λ stop. RecordedPart (before ++ lines) stop old made new new_made) (sym handed) part
 
 pub handed-replies : {A : Type 0} {text : List ℕ} {old new : ℕ} {out new_out : List ℕ → Type 0} {was : RepliesStop} (result : Result A RepliesStop) → IsErrAnd result (λ e. e ≡ was)
     → RepliedPart text was old out new new_out → Replies text result old out new new_out
 handed-replies (Ok x) handed part = absurd handed
 handed-replies {A} {text} {old} {new} {out} {new_out} (Err e) handed part = subst (λ stop. RepliedPart text stop old out new new_out) (sym handed) part
 
-pub handed-replies-behind : {A : Type 0} (kept text left : List ℕ) {old new : ℕ} {out new_out : List ℕ → Type 0} {was : RepliesStop} (result : Result A RepliesStop) → IsErrAnd result (λ e. e ≡ was)
-    → RepliedPart (kept ++ text) was old out new new_out → RepliesBehind kept text left result old out new new_out
-handed-replies-behind kept text left (Ok x) handed part = absurd handed
-handed-replies-behind {A} kept text left {old} {new} {out} {new_out} (Err e) handed part = subst (λ stop. RepliedPart (kept ++ text) stop old out new new_out) (sym handed) part
+pub handed-replies-behind : {A : Type 0} (before text left : List ℕ) {old new : ℕ} {out new_out : List ℕ → Type 0} {was : RepliesStop} (result : Result A RepliesStop) → IsErrAnd result (λ e. e ≡ was)
+    → RepliedPart (before ++ text) was old out new new_out → RepliesBehind before text left result old out new new_out
+handed-replies-behind before text left (Ok x) handed part = absurd handed
+handed-replies-behind {A} before text left {old} {new} {out} {new_out} (Err e) handed part = subst (λ stop. RepliedPart (before ++ text) stop old out new new_out) (sym handed) part
 
 pub grows-none : (w : List ℕ → Type 0) → Grows w w []
 grows-none w before h = subst w (sym (append-nil before)) h
@@ -86,12 +86,12 @@ file-part-longer u v slot part whole q p = (p.0, prefix-again p.0 part whole p.1
 
 -- texts that are kept back
 module _ (G : List ℕ → Type 0) (none : G []) where
-  pub keeps-none : (kept : List ℕ) → KeepsBack G kept [] kept
-  keeps-none kept = record { written = []; grows = none; same = sym (append-nil kept) }
+  pub keeps-none : (before : List ℕ) → KeepsBack G before [] before
+  keeps-none before = record { written = []; grows = none; same = sym (append-nil before) }
 
 -- a text is kept back, and then some of it is written
-pub keeps-pushed : (G : List ℕ → Type 0) (kept more left : List ℕ) → KeepsBack G (kept ++ more) [] left → KeepsBack G kept more left
-keeps-pushed G kept more left f = record { written = f.written; grows = f.grows; same = f.same ∙ append-nil (kept ++ more) }
+pub keeps-pushed : (G : List ℕ → Type 0) (before more left : List ℕ) → KeepsBack G (before ++ more) [] left → KeepsBack G before more left
+keeps-pushed G before more left f = record { written = f.written; grows = f.grows; same = f.same ∙ append-nil (before ++ more) }
 
 module _ (G : List ℕ → Type 0) (a b c d : List ℕ) (f : KeepsBack G a b c) where
   split : f.written ++ (c ++ d) ≡ a ++ (b ++ d)
@@ -163,26 +163,26 @@ module _ (u : List Made → Type 0) (slot : ℕ) (whole : List ℕ) where
         file-part-longer u w slot (f.written ++ part) whole (rest, sym f.same ∙ ap (λ l. f.written ++ l) parts ∙ sym (append_assoc f.written part rest)) (file-part-after u v w slot f.written part f.grows p)
 
 -- a first part of the lines is kept back already
-pub records-pushed : {A : Type 0} (old new : FilesState) (made new_made : List Made → Type 0) (kept first rest left : List ℕ) {more : List ℕ} → more ≡ kept ++ first → (result : Result A JournalStop)
-    → RecordsBehind more rest left result old made new new_made → RecordsBehind kept (first ++ rest) left result old made new new_made
-records-pushed old new made new_made kept first rest left is (Ok x) done = record {
-  kept = record { written = done.kept.written; grows = done.kept.grows; same = done.kept.same ∙ ap (λ l. l ++ rest) is ∙ append_assoc kept first rest };
+pub records-pushed : {A : Type 0} (old new : FilesState) (made new_made : List Made → Type 0) (before first rest left : List ℕ) {more : List ℕ} → more ≡ before ++ first → (result : Result A JournalStop)
+    → RecordsBehind more rest left result old made new new_made → RecordsBehind before (first ++ rest) left result old made new new_made
+records-pushed old new made new_made before first rest left is (Ok x) done = record {
+  keeps_back = record { written = done.keeps_back.written; grows = done.keeps_back.grows; same = done.keeps_back.same ∙ ap (λ l. l ++ rest) is ∙ append_assoc before first rest };
   state = done.state;
 }
-records-pushed old new made new_made kept first rest left is (Err stop) part = record {
-  begun = subst (FileGrowsPart made new_made 0) (ap (λ l. l ++ rest) is ∙ append_assoc kept first rest) part.begun;
+records-pushed old new made new_made before first rest left is (Err stop) part = record {
+  begun = subst (FileGrowsPart made new_made 0) (ap (λ l. l ++ rest) is ∙ append_assoc before first rest) part.begun;
   state = part.state;
 }
 
 -- what was kept back is written, and then all that comes after it
-pub records-after : {A : Type 0} (u v w : List Made → Type 0) (kept more left : List ℕ) (old mid new : FilesState) → mid ≡ old → FileGrows u v 0 kept → left ≡ [] → (result : Result A JournalStop)
-    → Records more result mid v new w → RecordsBehind kept more left result old u new w
-records-after u v w kept more left old mid new same f none (Ok x) done = record {
-  kept = record { written = kept ++ more; grows = file-more u v w 0 kept more f done.written; same = ap (λ l. (kept ++ more) ++ l) none ∙ append-nil (kept ++ more) };
+pub records-after : {A : Type 0} (u v w : List Made → Type 0) (before more left : List ℕ) (old mid new : FilesState) → mid ≡ old → FileGrows u v 0 before → left ≡ [] → (result : Result A JournalStop)
+    → Records more result mid v new w → RecordsBehind before more left result old u new w
+records-after u v w before more left old mid new same f none (Ok x) done = record {
+  keeps_back = record { written = before ++ more; grows = file-more u v w 0 before more f done.written; same = ap (λ l. (before ++ more) ++ l) none ∙ append-nil (before ++ more) };
   state = done.state ∙ same;
 }
-records-after u v w kept more left old mid new same f none (Err stop) part = record {
-  begun = file-part-after u v w 0 kept more f part.begun;
+records-after u v w before more left old mid new same f none (Err stop) part = record {
+  begun = file-part-after u v w 0 before more f part.begun;
   state = subst (λ n. JournalStops n new stop) same part.state;
 }
 

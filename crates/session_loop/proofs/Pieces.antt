@@ -75,6 +75,10 @@ module _ {X : Type 0} (f : X → List ℕ) where
       let next : suc (i + 1) ≡ suc i + 1 = omega arith in
       texts-left xs i x (omega (arith, within)) is ∙ ap (λ n. f x ++ flat_map f (drop n (y ∷ xs))) next
 
+-- what stands behind five parts, apart from them
+parts-apart : (a b c d e f : List ℕ) → a ++ (b ++ (c ++ (d ++ (e ++ f)))) ≡ (a ++ (b ++ (c ++ (d ++ e)))) ++ f
+parts-apart a b c d e f = simp append_assoc
+
 -- shards
 shards-more : (k : ℕ) (lists : List (List Entry)) (es : List Entry) → shard_lines k (lists ++ es ∷ []) ≡ shard_lines k lists ++ (shard_line (k + length lists) ++ flat_map entry_line es)
 shards-more k [] es =
@@ -85,20 +89,14 @@ shards-more k [] es =
     regroup a b c d = simp (append_assoc, append-nil)
 shards-more k (x ∷ lists) es =
     ap (λ l. codes "shard" ++ (field k ++ (line_feed ++ (lines_of x ++ l)))) (shards-more (k + 1) lists es ∙ ap (λ n. shard_lines (k + 1) lists ++ (shard_line n ++ lines_of es)) (omega arith))
-    ∙ regroup (codes "shard") (field k) line_feed (lines_of x) (shard_lines (k + 1) lists) (shard_line (k + suc (length lists)) ++ lines_of es)
-  where
-    regroup : (a b c d e f : List ℕ) → a ++ (b ++ (c ++ (d ++ (e ++ f)))) ≡ (a ++ (b ++ (c ++ (d ++ e)))) ++ f
-    regroup a b c d e f = simp append_assoc
+    ∙ parts-apart (codes "shard") (field k) line_feed (lines_of x) (shard_lines (k + 1) lists) (shard_line (k + suc (length lists)) ++ lines_of es)
 
 shards-split : (i k : ℕ) (lists : List (List Entry)) → shard_lines k lists ≡ shard_lines k (take i lists) ++ shard_lines (k + i) (drop i lists)
 shards-split zero k lists = ap (λ n. shard_lines n lists) (omega arith)
 shards-split (suc i) k [] = refl
 shards-split (suc i) k (x ∷ lists) =
     ap (λ l. codes "shard" ++ (field k ++ (line_feed ++ (lines_of x ++ l)))) (shards-split i (k + 1) lists ∙ ap (λ n. shard_lines (k + 1) (take i lists) ++ shard_lines n (drop i lists)) (omega arith))
-    ∙ regroup (codes "shard") (field k) line_feed (lines_of x) (shard_lines (k + 1) (take i lists)) (shard_lines (k + suc i) (drop i lists))
-  where
-    regroup : (a b c d e f : List ℕ) → a ++ (b ++ (c ++ (d ++ (e ++ f)))) ≡ (a ++ (b ++ (c ++ (d ++ e)))) ++ f
-    regroup a b c d e f = simp append_assoc
+    ∙ parts-apart (codes "shard") (field k) line_feed (lines_of x) (shard_lines (k + 1) (take i lists)) (shard_lines (k + suc i) (drop i lists))
 
 -- the lines of one shard more
 pub shards-next : (lists : List (List Entry)) (i : ℕ) (es : List Entry) → i < length lists → es ≡ get_or lists i es → shard_lines 0 (take (i + 1) lists) ≡ shard_lines 0 (take i lists) ++ (shard_line i ++ flat_map entry_line es)

@@ -38,8 +38,9 @@ use Rattle.session_loop.specs.inner.Desks.{IsCount, IsCounted, IsHeldCounted, Is
 use Rattle.session_loop.specs.Serving.{memo_of, session_of}
 use Rattle.session_loop.specs.Outside.{Seen}
 use Rattle.session_loop.specs.inner.Serving.{Serves, Stops, UnitsServed, UnitsStopped, held_text}
+use Rattle.session_loop.specs.inner.Telling.{WritesAll, WritesPart}
 use Rattle.session_loop.proofs.Growing.{file-none}
-use Rattle.session_loop.proofs.Served.{WritesAll, WritesPart, counts-more, cells-more, kept-dumps, sections-served, sections-stopped, unit-served, kept-desk}
+use Rattle.session_loop.proofs.Served.{counts-more, cells-more, kept-dumps, sections-served, sections-stopped, unit-served, kept-desk}
 
 -- The section of a memo of its own, if there is one.
 

@@ -43,7 +43,7 @@ use Rattle.session_loop.specs.declared.stop.JournalStop.{JournalStop}
 use Rattle.session_loop.specs.declared.stop.RepliesStop.{RepliesStop}
 use Rattle.session_loop.specs.declared.stop.UnitStop.{UnitStop}
 use Rattle.session_loop.specs.declared.stop.UnitStop.TheVariants.{OutOfMemory}
-use Rattle.session_loop.specs.Outside.{Outputs, Seen, seen, JournalStops, UnitsStop}
+use Rattle.session_loop.specs.Outside.{Outputs, Seen, seen, JournalStops}
 use Rattle.session_loop.specs.Serving.{BreaksAt, memo_of, session_of}
 use Rattle.session_loop.specs.Stops.{of_replies, of_journal}
 use Rattle.session_loop.specs.inner.Outside.{RepliesStops}
@@ -53,6 +53,7 @@ use Rattle.unit_answers.specs.Done.{IsBatchDone, IsTrimDone}
 use Rattle.unit_answers.specs.Dumps.{IsOwnWave}
 use Rattle.unit_answers.proofs.Dumping.{done-waves}
 use Rattle.session_loop.specs.inner.Desks.{IsCount, IsCounted, batches_in, counted_lists, Shows, KeepsDumps, IsShowable, IsDesk, IsReady, Keeps}
+use Rattle.session_loop.specs.inner.Telling.{OfReplies, OfJournal, WritesAll, WritesPart, Tells}
 use Rattle.session_loop.specs.inner.Serving.{ServedTo, Within, StoppedIn, Serves, Stops, StopsAfter, UnitsServed, UnitsStopped, ServesUnits}
 use Rattle.session_loop.proofs.Breaking.{within-front, within-longer, within-map, within-none, broken-none, broken-at, breaks-longer, breaks-in-reply, breaks-in-journal}
 use Rattle.session_loop.proofs.Changes.{calm, dumped-only, of-replies, of-journal, journal-created, same-outputs}
@@ -99,29 +100,6 @@ pub cells-more : (shard : ℕ) (cells left : List SignalCell) (sections : List S
     → left ≡ cells_after shard (sections ++ section ∷ [])
 cells-more shard cells left sections section was leaves =
     leaves ∙ ap (λ l. cells_left shard l section) was ∙ sym (fold-append (cells_left shard) [] sections (section ∷ []))
-
--- a stop in the writing of replies, or of the journal
-abbrev pub OfReplies : UnitStop → Type 0
-OfReplies stop = (given : RepliesStop) × (stop ≡ of_replies given)
-
-abbrev pub OfJournal : UnitStop → Type 0
-OfJournal stop = (given : JournalStop) × (stop ≡ of_journal given)
-
--- All of a text was written, and all of the lines after it.
-pub record WritesAll (before after : Seen) (text lines : List ℕ) : Type 0 where
-  pub replied : Grows before.written after.written text
-  pub recorded : FileGrows before.made after.made 0 lines
-  pub calm : after.outputs ≡ before.outputs
-
--- A part of a text was written, and a part of the lines after it: of the lines only once all of the text was. The stop is one of the text,
--- or of the lines, behind all of the text.
-pub record WritesPart (before after : Seen) (text lines : List ℕ) (stop : UnitStop) : Type 0 where
-  pub replied : GrowsPart before.written after.written text
-  pub recorded : FileGrowsPart before.made after.made 0 lines
-  pub first : (replied.0 ≡ text) ⊎ (recorded.0 ≡ [])
-  pub cause : OfReplies stop ⊎ (OfJournal stop × (replied.0 ≡ text))
-  pub created : after.outputs.files.created ≡ before.outputs.files.created
-  pub state : UnitsStop before.outputs after.outputs stop
 
 module _ (before : Seen) (text lines : List ℕ) where
   pub all-written : (files : FilesState) (made : List Made → Type 0) (replies : ℕ) (written : List ℕ → Type 0) → files ≡ before.outputs.files → replies ≡ before.outputs.replies
@@ -182,10 +160,10 @@ module _ (setup : Setup) where
       module _ (served : IsServed setup now unit leads-to) (journal-is : journal_of setup leads-to ≡ journal_of setup now ++ lines) where
         -- all was written
         pub sections-served : (later : Desk) → Keeps setup later leads-to → WritesAll before after text lines → ServedTo setup (units ++ unit ∷ []) now later before after
-        sections-served later kept wrote = record {
+        sections-served later holds wrote = record {
           next = leads-to;
           session = Served unit session served;
-          keeps = kept;
+          keeps = holds;
           replied = (text, refl, wrote.replied);
           recorded = subst (λ j. FilesGoOn before.made after.made (journal_of setup now) now.dumps j now.dumps) (sym journal-is) (journal-grows before.made after.made (journal_of setup now) lines now.dumps wrote.recorded);
         }
@@ -391,6 +369,12 @@ pub handed-stop : {service : Service} {desk : Desk} {units : List ScriptUnit} {b
 handed-stop (Ok later) handed stopped = absurd handed
 handed-stop {service} {desk} {units} {before} {after} (Err stop) handed stopped = subst (UnitsStopped service desk units before after) (sym handed) stopped
 
+-- the stop of a text and its lines that a result hands on
+pub handed-part : {A : Type 0} {text lines : List ℕ} {before after : Seen} {was : UnitStop} (result : Result A UnitStop) → IsErrAnd result (λ e. e ≡ was)
+    → WritesPart before after text lines was → Tells text lines result before after
+handed-part (Ok done) handed wrote = absurd handed
+handed-part {A} {text} {lines} {before} {after} (Err stop) handed wrote = subst (WritesPart before after text lines) (sym handed) wrote
+
 -- nothing of the next units was written
 pub units-none : {service : Service} {desk : Desk} {more : List ScriptUnit} (before : Seen) → IsReady (memo_of service) desk before.outputs.files → UnitsStopped service desk more before before OutOfMemory
 units-none {service} {desk} {more} before ready = record {
@@ -402,9 +386,9 @@ module _ (service : Service) (desk : Desk) (before after : Seen) (ready : IsRead
   -- all was written
   pub unit-served : (later : Desk) (unit : ScriptUnit) (text lines : List ℕ) → IsDesk (memo_of service) later → later.dumps.made.items ≡ desk.dumps.made.items → WritesAll before after text lines
       → ((names : List (List ℕ)) → Serves (session_of service names) desk later (unit ∷ []) before after) → UnitsServed service desk later (unit ∷ []) before after
-  unit-served later unit text lines kept made wrote served = record {
+  unit-served later unit text lines is made wrote served = record {
     ready = subst (IsReady (memo_of service) later) (ap (λ (o : Outputs). o.files) (sym wrote.calm)) (record {
-      desk = kept;
+      desk = is;
       count = ready.count ∙ ap (λ l. length l + 1) (sym made);
       unfinished = ready.unfinished;
     });

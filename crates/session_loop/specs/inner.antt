@@ -5,3 +5,4 @@ pub mod Outside
 pub mod Pieces
 pub mod Scripts
 pub mod Serving
+pub mod Telling

@@ -48,6 +48,7 @@ mod service;
 mod session;
 mod stop;
 mod stores;
+mod tell;
 mod unit;
 mod work;
 

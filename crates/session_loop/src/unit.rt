@@ -1,27 +1,64 @@
 //! A unit is served.
 
-ghost use Rattle.std.specs.Prelude.{◌∷◌, [], All};
+ghost use Rattle.std.specs.Prelude.{◌≡◌, ◌∷◌, [], All, IfOk, length, sum_by};
+ghost use Rattle.journal_text.specs.declared.sections.SectionKind.TheVariants as kinds_of_section;
 ghost use Rattle.query_lines.specs.declared.unit.Unit.TheVariants as kinds;
 ghost use Rattle.query_lines.specs.Laws.{IsWithin};
 ghost use Rattle.query_lines.specs.Fit.{AsksByName, HaveOwnLines, IsFit};
+ghost use Rattle.reply_lines.specs.Replies.{trimmed_line};
+ghost use Rattle.unit_answers.specs.Done.{IsBatchDone, IsTrimDone};
+ghost use Rattle.unit_answers.specs.Stores.{AreStores};
 ghost use Rattle.session_loop.specs.Outside.{seen};
 ghost use Rattle.session_loop.specs.Serving.{memo_of};
-ghost use Rattle.session_loop.specs.inner.Desks.{IsReady};
+ghost use Rattle.session_loop.specs.inner.Desks.{IsCounted, IsReady};
 ghost use Rattle.session_loop.specs.inner.Serving.{ServesUnits};
 
 use crate::counting::{cells_in, count_section, entries_in};
-use crate::desk::{Desk, LastBatch};
+use crate::desk::{Counts, Desk, LastBatch};
 use crate::dump::serve_vcd;
 use crate::question::serve_question;
-use crate::section::{write_replies, write_reply, write_section};
+use crate::section::write_reply;
 use crate::service::Service;
 use crate::stop::UnitStop;
+use crate::tell::{tell_batch, tell_trim};
 use backsim_io::{Files, Sink};
+use cell_store::CellStore;
 use journal_text::SectionKind;
-use query_lines::{ItemList, Unit, UnitList};
+use owned_text::OutOfMemory;
+use query_lines::{Item, ItemList, Unit, UnitList};
 use reply_lines::{stats_text, trimmed_text};
-use unit_answers::{answer_batch, trim_stores};
+use unit_answers::{BatchDone, TrimDone, answer_batch, trim_stores};
 use worker_gate::Crew;
+
+/// Answers a batch over the stores, and counts its section.
+fn answer<C: Crew>(
+    crew: &C,
+    service: &Service<'_>,
+    items: &[Item],
+    stores: Vec<CellStore>,
+    counts: Counts,
+) -> Result<(BatchDone, Counts), OutOfMemory>
+    requires stores { AreStores (memo_of service.now) stores.items }
+    requires within { IsWithin service.now.design.now.circuit.horizon items.now }
+    requires lines { HaveOwnLines items.now }
+    ensures done { IfOk result (λ r. IsBatchDone (memo_of service.now) items.now stores.items
+        r.0.replies.items r.0.lists.items r.0.stores.items) }
+    ensures counted { IfOk result (λ r. IsCounted counts kinds_of_section.Batch r.0.lists.items
+        r.1) }
+{
+    let done = answer_batch(
+        crew,
+        service.alloc,
+        service.design,
+        items,
+        service.sizes,
+        stores,
+    )?;
+    match count_section(counts, SectionKind::Batch, &done.lists) {
+        Some(counts) => Ok((done, counts)),
+        None => Err(OutOfMemory),
+    }
+}
 
 /// Serves a batch: its replies in the order of the items, then its section.
 pub fn serve_batch<C: Crew, F: Files, S: Sink>(
@@ -40,9 +77,6 @@ pub fn serve_batch<C: Crew, F: Files, S: Sink>(
         (seen (F.state files.old) (F.made files.old) (S.faults out.old) (S.written out.old))
         (seen (F.state files.new) (F.made files.new) (S.faults out.new) (S.written out.new)) }
 {
-    let alloc = service.alloc;
-    let design = service.design;
-    let sizes = service.sizes;
     let Desk {
         stores,
         counts,
@@ -51,18 +85,15 @@ pub fn serve_batch<C: Crew, F: Files, S: Sink>(
     } = desk;
     // The last batch is given up before the next one is answered.
     dumps.last = None;
-    let done = answer_batch(crew, alloc, design, items.as_slice(), sizes, stores)?;
-    let Some(counts) = count_section(counts, SectionKind::Batch, &done.lists) else {
-        return Err(UnitStop::OutOfMemory);
-    };
-    write_replies(alloc, items.as_slice(), &done.replies, out)?;
-    write_section(
+    let (done, counts) = answer(crew, service, items.as_slice(), stores, counts)?;
+    tell_batch(
         crew,
-        alloc,
-        SectionKind::Batch,
+        service.alloc,
+        items.as_slice(),
+        &done,
         counts.sections,
-        &done.lists,
         files,
+        out,
     )?;
     dumps.last = Some(LastBatch {
         items,
@@ -74,6 +105,40 @@ pub fn serve_batch<C: Crew, F: Files, S: Sink>(
         dumps,
         last_site,
     })
+}
+
+/// A trim that was made: the counts with its section, and its reply as text.
+#[derive(Drop)]
+struct Trimmed {
+    done: TrimDone,
+    counts: Counts,
+    text: Vec<u8>,
+}
+
+/// Trims the stores, and counts the section of this.
+fn trim(
+    service: &Service<'_>,
+    most: u32,
+    stores: Vec<CellStore>,
+    counts: Counts,
+) -> Result<Trimmed, OutOfMemory>
+    requires stores { AreStores (memo_of service.now) stores.items }
+    ensures done { IfOk result (λ r. IsTrimDone (memo_of service.now) most stores.items
+        r.done.lists.items r.done.stores.items) }
+    ensures counted { IfOk result (λ r. IsCounted counts kinds_of_section.Trim r.done.lists.items
+        r.counts) }
+    ensures text { IfOk result (λ r. r.text.items
+        ≡ trimmed_line (sum_by length r.done.lists.items)) }
+{
+    let done = trim_stores(service.alloc, service.design, most, service.sizes, stores)?;
+    let Some(counts) = count_section(counts, SectionKind::Trim, &done.lists) else {
+        return Err(OutOfMemory);
+    };
+    let Some(removed) = entries_in(&done.lists) else {
+        return Err(OutOfMemory);
+    };
+    let text = trimmed_text(service.alloc, removed)?;
+    Ok(Trimmed { done, counts, text })
 }
 
 /// Serves a trim: its reply, then its section.
@@ -90,31 +155,21 @@ pub fn serve_trim<C: Crew, F: Files, S: Sink>(
         (seen (F.state files.old) (F.made files.old) (S.faults out.old) (S.written out.old))
         (seen (F.state files.new) (F.made files.new) (S.faults out.new) (S.written out.new)) }
 {
-    let alloc = service.alloc;
-    let design = service.design;
-    let sizes = service.sizes;
     let Desk {
         stores,
         counts,
         dumps,
         last_site,
     } = desk;
-    let done = trim_stores(alloc, design, most, sizes, stores)?;
-    let (Some(counts), Some(removed)) = (
-        count_section(counts, SectionKind::Trim, &done.lists),
-        entries_in(&done.lists),
-    ) else {
-        return Err(UnitStop::OutOfMemory);
-    };
-    let text = trimmed_text(alloc, removed)?;
-    write_reply(&text, out)?;
-    write_section(
+    let Trimmed { done, counts, text } = trim(service, most, stores, counts)?;
+    tell_trim(
         crew,
-        alloc,
-        SectionKind::Trim,
-        counts.sections,
+        service.alloc,
+        &text,
         &done.lists,
+        counts.sections,
         files,
+        out,
     )?;
     Ok(Desk {
         stores: done.stores,

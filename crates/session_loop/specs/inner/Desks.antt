@@ -90,9 +90,9 @@ pub record IsDesk (setup : Setup) (desk : Desk) : Type 0 where
   pub site : IfSome desk.last_site (λ last. last ≡ setup.design)
 
 -- Units can be served over this desk and these files: the journal, which isn't finished, and the dumps are the files that were created.
-pub record IsReady (setup : Setup) (kept : Desk) (files : FilesState) : Type 0 where
-  pub desk : IsDesk setup kept
-  pub count : files.created ≡ length kept.dumps.made.items + 1
+pub record IsReady (setup : Setup) (d : Desk) (files : FilesState) : Type 0 where
+  pub desk : IsDesk setup d
+  pub count : files.created ≡ length d.dumps.made.items + 1
   pub unfinished : Contains files.unfinished 0
 
 -- what is kept is what the session has come to

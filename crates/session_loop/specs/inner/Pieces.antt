@@ -24,7 +24,7 @@ pub record RecordedPart (lines : List ℕ) (stop : JournalStop) (old : FilesStat
 
 -- these lines come after a text that was kept back, and this text is kept back now
 pub record RecordedBehind (before lines left : List ℕ) (old : FilesState) (made : List Made → Type 0) (new : FilesState) (new_made : List Made → Type 0) : Type 0 where
-  pub kept : KeepsBack (FileGrows made new_made 0) before lines left
+  pub keeps_back : KeepsBack (FileGrows made new_made 0) before lines left
   pub state : new ≡ old
 
 -- what the writing of lines comes to, by the outcome
@@ -33,8 +33,8 @@ Records lines (Ok done) = Recorded lines
 Records lines (Err stop) = RecordedPart lines stop
 
 abbrev pub RecordsBehind : {A : Type 0} → List ℕ → List ℕ → List ℕ → Result A JournalStop → FilesState → (List Made → Type 0) → FilesState → (List Made → Type 0) → Type 0
-RecordsBehind kept lines left (Ok done) = RecordedBehind kept lines left
-RecordsBehind kept lines left (Err stop) = RecordedPart (kept ++ lines) stop
+RecordsBehind before lines left (Ok done) = RecordedBehind before lines left
+RecordsBehind before lines left (Err stop) = RecordedPart (before ++ lines) stop
 
 -- The sink of the replies.
 
@@ -50,7 +50,7 @@ pub record RepliedPart (text : List ℕ) (stop : RepliesStop) (old : ℕ) (out :
 
 -- this text comes after one that was kept back, and this one is kept back now
 pub record RepliedBehind (before text left : List ℕ) (old : ℕ) (out : List ℕ → Type 0) (new : ℕ) (new_out : List ℕ → Type 0) : Type 0 where
-  pub kept : KeepsBack (Grows out new_out) before text left
+  pub keeps_back : KeepsBack (Grows out new_out) before text left
   pub state : new ≡ old
 
 -- what the writing of replies comes to, by the outcome
@@ -59,5 +59,5 @@ Replies text (Ok done) = Replied text
 Replies text (Err stop) = RepliedPart text stop
 
 abbrev pub RepliesBehind : {A : Type 0} → List ℕ → List ℕ → List ℕ → Result A RepliesStop → ℕ → (List ℕ → Type 0) → ℕ → (List ℕ → Type 0) → Type 0
-RepliesBehind kept text left (Ok done) = RepliedBehind kept text left
-RepliesBehind kept text left (Err stop) = RepliedPart (kept ++ text) stop
+RepliesBehind before text left (Ok done) = RepliedBehind before text left
+RepliesBehind before text left (Err stop) = RepliedPart (before ++ text) stop

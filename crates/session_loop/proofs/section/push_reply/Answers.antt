@@ -13,7 +13,7 @@ returns-in_err-extend_from_slice g c =
 
 -- it is kept back
 pub returns-then-len-lt-PIECE : goal.returns-then-len-lt-PIECE
-returns-then-len-lt-PIECE g c = record { kept = search (rules, common_steps); state = refl }
+returns-then-len-lt-PIECE g c = record { keeps_back = search (rules, common_steps); state = refl }
 
 -- a part of it was written, or all
 pub returns-in_err-write_reply : goal.returns-in_err-write_reply
@@ -21,4 +21,4 @@ returns-in_err-write_reply g c =
     handed-replies-behind _ _ _ c.from_residual-in_err-write_reply.result c.from_residual-in_err-write_reply.ensures.1 (record { begun = search (rules, common_steps); state = c.in_err-write_reply.ensures.state })
 
 pub returns : goal.returns
-returns g c = record { kept = search (rules, common_steps); state = c.in_ok-write_reply.ensures.state }
+returns g c = record { keeps_back = search (rules, common_steps); state = c.in_ok-write_reply.ensures.state }

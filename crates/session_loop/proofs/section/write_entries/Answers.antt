@@ -13,7 +13,7 @@ pub loop-entry-init : goal.loop-entry-init
 loop-entry-init g c =
     let M = g.F.Files.made in
     record {
-      kept = keeps-none (FileGrows (M c.args.files.now) (M c.args.files.now) 0) (file-none (M c.args.files.now) 0) c.args.text.now.items;
+      keeps_back = keeps-none (FileGrows (M c.args.files.now) (M c.args.files.now) 0) (file-none (M c.args.files.now) 0) c.args.text.now.items;
       same = refl;
     }
 
@@ -30,11 +30,11 @@ loop-entry-preserved g c =
     let held = c.loop-entry.invariant in
     let done = c.in_ok-write_full.ensures in
     record {
-      kept = subst (λ l. KeepsBack (FileGrows u w slot) c.args.text.now.items l c.write_full.new.text.items) (sym (lines-next es i e c.loop-entry-test.true c.entry-item.is))
-          (keeps-more (FileGrows u v slot) c.args.text.now.items (flat_map entry_line (take i es)) c.loop-entry.text.items (entry_line e) held.kept
+      keeps_back = subst (λ l. KeepsBack (FileGrows u w slot) c.args.text.now.items l c.write_full.new.text.items) (sym (lines-next es i e c.loop-entry-test.true c.entry-item.is))
+          (keeps-more (FileGrows u v slot) c.args.text.now.items (flat_map entry_line (take i es)) c.loop-entry.text.items (entry_line e) held.keeps_back
           (FileGrows v w slot) (FileGrows u w slot) (file-more u v w slot) c.write_full.new.text.items
           (keeps-pushed (FileGrows v w slot) c.loop-entry.text.items (entry_line e) c.write_full.new.text.items
-          (subst (λ t. KeepsBack (FileGrows v w slot) t [] c.write_full.new.text.items) c.in_ok-push_entry.ensures done.kept)));
+          (subst (λ t. KeepsBack (FileGrows v w slot) t [] c.write_full.new.text.items) c.in_ok-push_entry.ensures done.keeps_back)));
       same = done.state ∙ held.same;
     }
 
@@ -48,7 +48,7 @@ returns-in_err-push_entry g c =
     let i = c.loop-entry.entry-index in
     let e = c.entry-item.result in
     handed-behind _ _ _ c.from_residual.result c.from_residual.ensures.1 (record {
-      begun = keeps-part (FileGrows u v slot) c.args.text.now.items (flat_map entry_line (take i es)) c.loop-entry.text.items (entry_line e) c.loop-entry.invariant.kept
+      begun = keeps-part (FileGrows u v slot) c.args.text.now.items (flat_map entry_line (take i es)) c.loop-entry.text.items (entry_line e) c.loop-entry.invariant.keeps_back
           (FileGrowsPart v v slot) (FileGrowsPart u v slot) (file-part-after u v v slot) (file-part-longer u v slot)
           (flat_map entry_line (drop (i + 1) es)) (flat_map entry_line es) (lines-after es i e c.loop-entry-test.true c.entry-item.is) (file-part-none v slot _);
       state = c.loop-entry.invariant.same;
@@ -65,7 +65,7 @@ returns-in_err-write_full g c =
     let i = c.loop-entry.entry-index in
     let e = c.entry-item.result in
     handed-behind _ _ _ c.from_residual-in_err-write_full.result c.from_residual-in_err-write_full.ensures.1 (record {
-      begun = keeps-part (FileGrows u v slot) c.args.text.now.items (flat_map entry_line (take i es)) c.loop-entry.text.items (entry_line e) c.loop-entry.invariant.kept
+      begun = keeps-part (FileGrows u v slot) c.args.text.now.items (flat_map entry_line (take i es)) c.loop-entry.text.items (entry_line e) c.loop-entry.invariant.keeps_back
           (FileGrowsPart v w slot) (FileGrowsPart u w slot) (file-part-after u v w slot) (file-part-longer u w slot)
           (flat_map entry_line (drop (i + 1) es)) (flat_map entry_line es) (lines-after es i e c.loop-entry-test.true c.entry-item.is)
           (subst (FileGrowsPart v w slot) (append-nil c.push_entry.new.text.items ∙ c.in_ok-push_entry.ensures) c.in_err-write_full.ensures.begun);
@@ -77,7 +77,7 @@ pub returns : goal.returns
 returns g c =
     let M = g.F.Files.made in
     record {
-      kept = subst (λ l. KeepsBack (FileGrows (M c.args.files.now) (M c.loop-entry.files) 0) c.args.text.now.items l c.loop-entry.text.items)
-          (ap (flat_map entry_line) (take_all c.loop-entry.entry-index c.args.entries.now (omega (arith, c.loop-entry-test.false)))) c.loop-entry.invariant.kept;
+      keeps_back = subst (λ l. KeepsBack (FileGrows (M c.args.files.now) (M c.loop-entry.files) 0) c.args.text.now.items l c.loop-entry.text.items)
+          (ap (flat_map entry_line) (take_all c.loop-entry.entry-index c.args.entries.now (omega (arith, c.loop-entry-test.false)))) c.loop-entry.invariant.keeps_back;
       state = c.loop-entry.invariant.same;
     }

@@ -8,6 +8,6 @@ use Rattle.session_loop.proofs.section.write_entries.Given as goal
 
 abbrev pub invariant-loop-entry : goal.invariant-loop-entry
 invariant-loop-entry g l = record {
-  kept : KeepsBack (FileGrows (g.F.Files.made l.initial.files) (g.F.Files.made l.files) 0) l.initial.text.items (flat_map entry_line (take l.entry-index l.entries)) l.text.items;
+  keeps_back : KeepsBack (FileGrows (g.F.Files.made l.initial.files) (g.F.Files.made l.files) 0) l.initial.text.items (flat_map entry_line (take l.entry-index l.entries)) l.text.items;
   same : g.F.Files.state l.files ≡ g.F.Files.state l.initial.files;
 }

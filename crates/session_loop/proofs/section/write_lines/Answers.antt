@@ -11,10 +11,10 @@ returns-in_err-write_piece g c =
     let M = g.F.Files.made in
     let u = M c.args.files.now in
     let v = M c.write_piece.new.files in
-    let kept = c.args.text.now.items in
+    let before = c.args.text.now.items in
     let lines = flat_map entry_line c.args.entries.now in
     handed-behind _ _ _ c.from_residual.result c.from_residual.ensures.1 (record {
-      begun = file-part-longer u v 0 kept (kept ++ lines) (lines, refl) (subst (FileGrowsPart u v 0) c.as_slice.ensures.value c.in_err-write_piece.ensures.begun);
+      begun = file-part-longer u v 0 before (before ++ lines) (lines, refl) (subst (FileGrowsPart u v 0) c.as_slice.ensures.value c.in_err-write_piece.ensures.begun);
       state = c.in_err-write_piece.ensures.state;
     })
 

@@ -27,7 +27,7 @@ returns-in_err-push_reply g c =
     let reply = c.index-replies-i.result in
     let inside : i < length replies = omega (arith, c.loop-i-test.true, c.requires.count) in
     handed-replies c.from_residual.result c.from_residual.ensures.1 (record {
-      begun = keeps-part (Grows u v) [] (replies_text (take i items) (take i replies)) c.loop-i.text.items (text_of item reply) c.loop-i.invariant.kept
+      begun = keeps-part (Grows u v) [] (replies_text (take i items) (take i replies)) c.loop-i.text.items (text_of item reply) c.loop-i.invariant.keeps_back
           (GrowsPart v w) (GrowsPart u w) (part-after u v w) (part-longer u w)
           (replies_text (drop (i + 1) items) (drop (i + 1) replies)) (replies_text items replies) (replies-after items replies i item reply c.loop-i-test.true inside c.index-items-i.is c.index-replies-i.is) c.in_err-push_reply.ensures.begun;
       state = subst (λ n. RepliesStops n (g.S.Sink.faults c.push_reply.new.out) c.in_err-push_reply.field-0.0) c.loop-i.invariant.calm c.in_err-push_reply.ensures.state;
@@ -46,9 +46,9 @@ loop-i-preserved g c =
     let reply = c.index-replies-i.result in
     let inside : i < length replies = omega (arith, c.loop-i-test.true, c.requires.count) in
     record {
-      kept = subst (λ l. KeepsBack (Grows u w) [] l c.push_reply.new.text.items) (sym (replies-next items replies i item reply c.loop-i-test.true inside c.index-items-i.is c.index-replies-i.is))
-          (keeps-more (Grows u v) [] (replies_text (take i items) (take i replies)) c.loop-i.text.items (text_of item reply) c.loop-i.invariant.kept
-          (Grows v w) (Grows u w) (grows-more u v w) c.push_reply.new.text.items c.in_ok-push_reply.ensures.kept);
+      keeps_back = subst (λ l. KeepsBack (Grows u w) [] l c.push_reply.new.text.items) (sym (replies-next items replies i item reply c.loop-i-test.true inside c.index-items-i.is c.index-replies-i.is))
+          (keeps-more (Grows u v) [] (replies_text (take i items) (take i replies)) c.loop-i.text.items (text_of item reply) c.loop-i.invariant.keeps_back
+          (Grows v w) (Grows u w) (grows-more u v w) c.push_reply.new.text.items c.in_ok-push_reply.ensures.keeps_back);
       calm = c.in_ok-push_reply.ensures.state ∙ c.loop-i.invariant.calm;
     }
 
@@ -70,5 +70,5 @@ returns g c =
     ∙ ap (λ l. replies_text l (take i replies)) (take_all i items (omega (arith, c.loop-i-test.false)))
     ∙ ap (replies_text items) (take_all i replies (omega (arith, c.loop-i-test.false, c.requires.count))) in
     subst (λ l. Replies l c.write_reply.result (N c.args.out.now) u (N c.write_reply.new.out) w) all
-    (replies-last [] first left [] u v w c.loop-i.invariant.kept (N c.args.out.now) (N c.loop-i.out) (N c.write_reply.new.out) c.loop-i.invariant.calm c.write_reply.result
+    (replies-last [] first left [] u v w c.loop-i.invariant.keeps_back (N c.args.out.now) (N c.loop-i.out) (N c.write_reply.new.out) c.loop-i.invariant.calm c.write_reply.result
     (subst (λ l. Replies l c.write_reply.result (N c.loop-i.out) v (N c.write_reply.new.out) w) text c.write_reply.ensures))

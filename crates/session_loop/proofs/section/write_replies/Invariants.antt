@@ -7,6 +7,6 @@ use Rattle.session_loop.proofs.section.write_replies.Given as goal
 
 abbrev pub invariant-loop-i : goal.invariant-loop-i
 invariant-loop-i g l = record {
-  kept : KeepsBack (Grows (g.S.Sink.written l.initial.out) (g.S.Sink.written l.out)) [] (replies_text (take l.i l.items) (take l.i l.replies)) l.text.items;
+  keeps_back : KeepsBack (Grows (g.S.Sink.written l.initial.out) (g.S.Sink.written l.out)) [] (replies_text (take l.i l.items) (take l.i l.replies)) l.text.items;
   calm : g.S.Sink.faults l.out ≡ g.S.Sink.faults l.initial.out;
 }

@@ -32,7 +32,7 @@ returns-in_err-extend_from_slice g c =
     handed-part c.from_residual-in_err-extend_from_slice.result c.from_residual-in_err-extend_from_slice.ensures.1 (record {
       begun = subst (FileGrowsPart u v slot) (sym (section-parts c.args.kind c.args.number c.args.lists.now))
           (keeps-part (FileGrows u v slot) (section_head c.args.kind c.args.number) lines left (codes "end\n")
-          (subst (λ head. KeepsBack (FileGrows u v slot) head lines left) c.in_ok-text.ensures c.in_ok-write_shards.ensures.kept)
+          (subst (λ head. KeepsBack (FileGrows u v slot) head lines left) c.in_ok-text.ensures c.in_ok-write_shards.ensures.keeps_back)
           (FileGrowsPart v v slot) (FileGrowsPart u v slot) (file-part-after u v v slot) (file-part-longer u v slot)
           [] (lines ++ codes "end\n") (sym (append-nil (lines ++ codes "end\n"))) (file-part-none v slot _));
       state = c.in_ok-write_shards.ensures.state;
@@ -50,6 +50,6 @@ returns g c =
     let text : c.as_slice.result.now ≡ left ++ codes "end\n" = grind (arith, common_steps) in
     subst (λ l. Records l c.write_piece.result (F c.args.files.now) u (F c.write_piece.new.files) w) (sym (section-parts c.args.kind c.args.number c.args.lists.now))
     (records-last (section_head c.args.kind c.args.number) lines left (codes "end\n") u v w
-    (subst (λ head. KeepsBack (FileGrows u v 0) head lines left) c.in_ok-text.ensures c.in_ok-write_shards.ensures.kept)
+    (subst (λ head. KeepsBack (FileGrows u v 0) head lines left) c.in_ok-text.ensures c.in_ok-write_shards.ensures.keeps_back)
     (F c.args.files.now) (F c.write_shards.new.files) (F c.write_piece.new.files) c.in_ok-write_shards.ensures.state c.write_piece.result
     (subst (λ l. Records l c.write_piece.result (F c.write_shards.new.files) v (F c.write_piece.new.files) w) text c.write_piece.ensures))

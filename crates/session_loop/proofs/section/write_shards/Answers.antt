@@ -14,7 +14,7 @@ loop-list-init g c =
     let M = g.F.Files.made in
     record {
       number = refl;
-      kept = keeps-none (FileGrows (M c.args.files.now) (M c.args.files.now) 0) (file-none (M c.args.files.now) 0) c.args.text.now.items;
+      keeps_back = keeps-none (FileGrows (M c.args.files.now) (M c.args.files.now) 0) (file-none (M c.args.files.now) 0) c.args.text.now.items;
       same = refl;
     }
 
@@ -32,11 +32,11 @@ loop-list-preserved g c =
     let done = c.in_ok-write_shard.ensures in
     record {
       number = omega (arith, held.number);
-      kept = subst (λ l. KeepsBack (FileGrows u w slot) c.args.text.now.items l c.write_shard.new.text.items) (sym (shards-next lists i es c.loop-list-test.true c.list-item.is))
-          (keeps-more (FileGrows u v slot) c.args.text.now.items (shard_lines 0 (take i lists)) c.loop-list.text.items (shard_line i ++ flat_map entry_line es) held.kept
+      keeps_back = subst (λ l. KeepsBack (FileGrows u w slot) c.args.text.now.items l c.write_shard.new.text.items) (sym (shards-next lists i es c.loop-list-test.true c.list-item.is))
+          (keeps-more (FileGrows u v slot) c.args.text.now.items (shard_lines 0 (take i lists)) c.loop-list.text.items (shard_line i ++ flat_map entry_line es) held.keeps_back
           (FileGrows v w slot) (FileGrows u w slot) (file-more u v w slot) c.write_shard.new.text.items
           (subst (λ l. KeepsBack (FileGrows v w slot) c.loop-list.text.items (shard_line i ++ flat_map entry_line l) c.write_shard.new.text.items) c.as_slice.ensures
-          (subst (λ n. KeepsBack (FileGrows v w slot) c.loop-list.text.items (shard_line n ++ flat_map entry_line c.as_slice.result.now) c.write_shard.new.text.items) held.number done.kept)));
+          (subst (λ n. KeepsBack (FileGrows v w slot) c.loop-list.text.items (shard_line n ++ flat_map entry_line c.as_slice.result.now) c.write_shard.new.text.items) held.number done.keeps_back)));
       same = done.state ∙ held.same;
     }
 
@@ -52,7 +52,7 @@ returns-in_err-write_shard g c =
     let es = c.list-item.result in
     let held = c.loop-list.invariant in
     handed-behind _ _ _ c.from_residual.result c.from_residual.ensures.1 (record {
-      begun = keeps-part (FileGrows u v slot) c.args.text.now.items (shard_lines 0 (take i lists)) c.loop-list.text.items (shard_line i ++ flat_map entry_line es) held.kept
+      begun = keeps-part (FileGrows u v slot) c.args.text.now.items (shard_lines 0 (take i lists)) c.loop-list.text.items (shard_line i ++ flat_map entry_line es) held.keeps_back
           (FileGrowsPart v w slot) (FileGrowsPart u w slot) (file-part-after u v w slot) (file-part-longer u w slot)
           (shard_lines (0 + (i + 1)) (drop (i + 1) lists)) (shard_lines 0 lists) (shards-after lists i es c.loop-list-test.true c.list-item.is)
           (subst (λ l. FileGrowsPart v w slot (c.loop-list.text.items ++ (shard_line i ++ flat_map entry_line l))) c.as_slice.ensures
@@ -65,7 +65,7 @@ pub returns : goal.returns
 returns g c =
     let M = g.F.Files.made in
     record {
-      kept = subst (λ l. KeepsBack (FileGrows (M c.args.files.now) (M c.loop-list.files) 0) c.args.text.now.items l c.loop-list.text.items)
-          (ap (shard_lines 0) (take_all c.loop-list.list-index c.args.lists.now (omega (arith, c.loop-list-test.false)))) c.loop-list.invariant.kept;
+      keeps_back = subst (λ l. KeepsBack (FileGrows (M c.args.files.now) (M c.loop-list.files) 0) c.args.text.now.items l c.loop-list.text.items)
+          (ap (shard_lines 0) (take_all c.loop-list.list-index c.args.lists.now (omega (arith, c.loop-list-test.false)))) c.loop-list.invariant.keeps_back;
       state = c.loop-list.invariant.same;
     }

@@ -6,7 +6,7 @@ use Rattle.journal_text.specs.declared.sections.SectionKind.TheVariants.{Held}
 use Rattle.session_loop.specs.inner.Growing.{FileGrowsPart}
 use Rattle.session_loop.proofs.Growing.{handed-part, file-part-none}
 use Rattle.session_loop.proofs.Questions.{held-unwritten, held-text}
-use Rattle.session_loop.proofs.question.write_held.Goals as goal
+use Rattle.session_loop.proofs.tell.write_held.Goals as goal
 
 -- there is no memo of its own
 pub returns-then-is_empty-clause-written : goal.returns-then-is_empty-clause-written
