@@ -1,9 +1,8 @@
 -- What explains a stop explains the status that it ends with, and which files it leaves unfinished.
-use Rattle.std.proofs.Common.{◌≡◌, ◌≤◌, ◌<◌, ◌+◌, ℕ, List, [], ◌∷◌, ◌++◌, inl, inr, refl, sym, ap, subst, ◌∙◌, arith}
-use Rattle.std.proofs.lemmas.List.Elements.{All-nil, All-cons, All-head}
+use Rattle.std.proofs.Common.{◌≡◌, ◌≤◌, ◌+◌, ℕ, List, [], ◌∷◌, ◌++◌, inl, inr, refl, sym, ap, subst, ◌∙◌, arith}
+use Rattle.std.proofs.lemmas.List.Elements.{All-nil, All-cons}
 use Rattle.std.specs.Prelude.{All}
 use Rattle.backsim_io.specs.Counts.{Rose}
-use Rattle.backsim_io.specs.FilesInMemory.{Places}
 use Rattle.backsim_io.specs.State.{FilesState, SourceState}
 use Rattle.circuit_files.specs.Changes.{Opened, StopChanges}
 use Rattle.circuit_files.specs.declared.stop.FilesStop.{FilesStop}
@@ -173,11 +172,6 @@ module _ (old mid new : Outside) (replies : ℕ) (w w' : List ℕ → Type 0) (s
   halt-ends JournalUnfinished e told = halt-as (FileFault named.Journal) (e.outputs.changed.rises.1, ap (λ (s : FilesState). s.started) e.outputs.changed.same ∙ three) told
 
 -- Which files are unfinished.
-
--- where no file was created, none is unfinished
-pub none-unfinished : (files : ℕ) (places : List ℕ) → files ≡ 0 → Places files places → places ≡ []
-none-unfinished files [] none are = refl
-none-unfinished files (place ∷ places) none are = let below : place < files = All-head (λ k. k < files) place places are.0 in absurd (omega (arith, below, none))
 
 pub none-open : (files : FilesState) → files.unfinished ≡ [] → JournalAtMost files
 none-open files none = subst (All (λ place. place ≡ 0)) (sym none) (All-nil (λ (place : ℕ). place ≡ 0))

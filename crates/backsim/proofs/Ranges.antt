@@ -1,6 +1,6 @@
 -- The numbers that the words name are in their ranges.
-use Rattle.std.proofs.Common.{◌≡◌, ℕ, ◌≤◌, ◌<◌, Bool, true, false, ◌&&◌, nat_le, List, [], ◌∷◌, length, Option, Some, None, refl, sym, arith, lit≤, cond, is_some, ◌||◌}
-use Rattle.std.proofs.lemmas.Bool.{leb-true}
+use Rattle.std.proofs.Common.{◌≡◌, ℕ, ◌≤◌, ◌<◌, Bool, true, false, ◌&&◌, nat_le, List, [], ◌∷◌, length, Option, Some, None, sym, arith, lit≤, cond, is_some, ◌||◌}
+use Rattle.std.proofs.lemmas.Bool.{and_parts, leb-true}
 use Rattle.std.proofs.lemmas.Option.{cond_some, option_and_then_some, none-some, same_Some}
 use Rattle.text_rules.specs.Text.{is_number, decimal_value}
 use Rattle.command_words.specs.Words.{Text, Workers, Shards, Cells, Work, Said, Form, Session, Workload, nothing_said, read, number_in, number_at, number_or, session_of, workload_of, first_form, form_by, form_of, words_of}
@@ -11,17 +11,13 @@ pub record InRange (w s c : ℕ) : Type 0 where
   pub shards : (0 < s) × (s ≤ 64)
   pub cells : (0 < c) × (c ≤ 65536)
 
-both : (a b : Bool) → (a && b) ≡ true → (a ≡ true) × (b ≡ true)
-both true b is = (refl, is)
-both false b is = absurd cc
-
 within : (most a n : ℕ) → a ≡ n → 1 ≤ a → a ≤ most → (0 < n) × (n ≤ most)
 within most a n is least some = (omega (arith, is, least), omega (arith, is, some))
 
 in-bounds : (digits short : Bool) (most value : ℕ) → (digits && short && nat_le 1 value && nat_le value most) ≡ true → (1 ≤ value) × (value ≤ most)
 in-bounds digits short most value is =
-    let upper = both (digits && short && nat_le 1 value) (nat_le value most) is in
-    let lower = both (digits && short) (nat_le 1 value) upper.0 in
+    let upper = and_parts (digits && short && nat_le 1 value) (nat_le value most) is in
+    let lower = and_parts (digits && short) (nat_le 1 value) upper.0 in
     (leb-true 1 value lower.1, leb-true value most upper.1)
 
 number-within : (most : ℕ) (text : Text) (n : ℕ) → number_in 1 most text ≡ Some n → (0 < n) × (n ≤ most)
@@ -100,7 +96,7 @@ pub record IsWorkInRange (n w : ℕ) : Type 0 where
 work-number-within : (text : Text) (n : ℕ) → number_at Work text ≡ Some n → n ≤ 2147483647
 work-number-within text n is =
     let found = cond_some (is_number text && nat_le (length text) 10 && nat_le 0 (decimal_value text) && nat_le (decimal_value text) 2147483647) (decimal_value text) n is in
-    let upper = both (is_number text && nat_le (length text) 10 && nat_le 0 (decimal_value text)) (nat_le (decimal_value text) 2147483647) found.0 in
+    let upper = and_parts (is_number text && nat_le (length text) 10 && nat_le 0 (decimal_value text)) (nat_le (decimal_value text) 2147483647) found.0 in
     let below : decimal_value text ≤ 2147483647 = leb-true (decimal_value text) 2147483647 upper.1 in
     let same : decimal_value text ≡ n = found.1 in
     omega (arith, below, same)

@@ -32,7 +32,8 @@ use Rattle.backsim.specs.declared.status.NamedFile.TheVariants as named
 use Rattle.backsim.specs.declared.status.Status.{Status}
 use Rattle.backsim.specs.declared.status.Status.TheVariants.{Ended, WriteFault, FileFault, OutOfMemory}
 use Rattle.session_loop.proofs.Changes.{work-finished}
-use Rattle.backsim.proofs.Explained.{outside_at, none-unfinished}
+use Rattle.session_loop.proofs.Changes.{none-unfinished}
+use Rattle.backsim.proofs.Explained.{outside_at}
 
 -- the workload's items are a batch of a script
 pub work-fit : (number : ℕ) (work : Work) → ScriptUnitsAreFit → IsWork number work → IsFit 100000 (Batch work.items)
