@@ -1,5 +1,5 @@
 -- What the reader knows after one more line, and the causes of a line by what the reader tests.
-use Rattle.std.proofs.Common.{◌≡◌, ℕ, ◌+◌, ◌||◌, Bool, true, false, cond, nat_eq, List, [], ◌∷◌, ◌++◌, length, map, get_or, set, Some, None, refl, sym, ap, subst, ◌∙◌, length-append}
+use Rattle.std.proofs.Common.{◌≡◌, ℕ, IsTrue, ◌+◌, ◌||◌, Bool, true, false, cond, nat_eq, List, [], ◌∷◌, ◌++◌, length, map, get_or, set, Some, None, refl, sym, ap, subst, ◌∙◌, length-append}
 use Rattle.std.specs.List.{list_any, list_all, flat_map}
 use Rattle.std.specs.Str.{bytes_eq}
 use Rattle.std.specs.Borrow.{Bor}
@@ -9,6 +9,7 @@ use Rattle.std.proofs.lemmas.List.Sums.{fold-append}
 use Rattle.std.proofs.Math.Bool.{or-true}
 use Rattle.indexmap.specs.IndexSet.{insert_key, insert_all}
 use Rattle.gate_values.specs.declared.Kind.{Kind}
+use Rattle.gate_values.specs.Gates.{allows}
 use Rattle.gate_values.specs.Spelling.{kind_of_word}
 use Rattle.bench_reader.specs.declared.netlist.Definition.{Definition}
 use Rattle.bench_reader.specs.declared.netlist.Definition.TheVariants.{Missing, Input, Gate}
@@ -16,7 +17,7 @@ use Rattle.bench_reader.specs.declared.reader.Reader.{Reader}
 use Rattle.bench_reader.specs.declared.fault.BenchCause.TheVariants.{UnknownKind, PinCount, NameLong, Twice, TooMany}
 use Rattle.bench_reader.specs.Lines.{Line}
 use Rattle.bench_reader.specs.Lines as line
-use Rattle.bench_reader.specs.Netlists.{names, pins_in, outputs_in, gates_in, defined_in, is_among, is_long, place, exceeds, is_crowded, miscounts, cause_of, cause_of_names}
+use Rattle.bench_reader.specs.Netlists.{names, pins_in, outputs_in, gates_in, defined_in, is_among, is_long, place, exceeds, is_crowded, cause_of, cause_of_names}
 use Rattle.bench_reader.specs.inner.Reading.{Knows, HasRead, Numbered, padded_rows, is_gate_at, is_defined_at}
 use Rattle.bench_reader.proofs.Places.{same_bytes, is_among_new, all_extends, numbered_kept, numbered_all, numbered_more, number_step, among_all, present_place, place_new}
 use Rattle.bench_reader.proofs.Rows.{Grows, all_names, gate_at, defined_at, told_kept, told_grown, told_set, told_input, told_gate}
@@ -173,10 +174,10 @@ output_crowds before name b h c = rw (h, c) refl
 pub gate_unknown : (before : List Line) (name word : List ℕ) (pins : List (List ℕ)) → kind_of_word word ≡ None → cause_of before (line.Gate name word pins) ≡ Some UnknownKind
 gate_unknown before name word pins k = rw k refl
 
-pub gate_miscounts : (before : List Line) (name word : List ℕ) (pins : List (List ℕ)) (kind : Kind) → kind_of_word word ≡ Some kind → miscounts kind (length pins) ≡ true → cause_of before (line.Gate name word pins) ≡ Some PinCount
+pub gate_miscounts : (before : List Line) (name word : List ℕ) (pins : List (List ℕ)) (kind : Kind) → kind_of_word word ≡ Some kind → allows kind (length pins) ≡ false → cause_of before (line.Gate name word pins) ≡ Some PinCount
 gate_miscounts before name word pins kind k m = rw (k, m) refl
 
-pub gate_cause : (before : List Line) (name word : List ℕ) (pins : List (List ℕ)) (kind : Kind) → kind_of_word word ≡ Some kind → miscounts kind (length pins) ≡ false → cause_of before (line.Gate name word pins) ≡ cause_of_names before (line.Gate name word pins) (is_among (flat_map defined_in before) name)
+pub gate_cause : (before : List Line) (name word : List ℕ) (pins : List (List ℕ)) (kind : Kind) → kind_of_word word ≡ Some kind → IsTrue (allows kind (length pins)) → cause_of before (line.Gate name word pins) ≡ cause_of_names before (line.Gate name word pins) (is_among (flat_map defined_in before) name)
 gate_cause before name word pins kind k m = rw (k, m) refl
 
 pub gate_long : (before : List Line) (name word : List ℕ) (pins : List (List ℕ)) (twice : Bool) → (is_long name || list_any is_long pins) ≡ true → cause_of_names before (line.Gate name word pins) twice ≡ Some NameLong

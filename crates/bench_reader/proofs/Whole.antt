@@ -1,14 +1,13 @@
 -- What holds of each netlist that is read.
-use Rattle.std.proofs.Common.{◌≡◌, ℕ, ◌+◌, ◌<◌, ◌≤◌, ◌&&◌, ◌||◌, Bool, true, false, not, eqb, ltb, cond, nat_eq, IsTrue, List, [], ◌∷◌, ◌++◌, length, map, take, drop, get_or, Some, refl, sym, ap, subst, ◌∙◌, arith, length-drop}
+use Rattle.std.proofs.Common.{◌≡◌, ℕ, ◌+◌, ◌<◌, ◌≤◌, Bool, true, false, ltb, cond, nat_eq, IsTrue, List, [], ◌∷◌, ◌++◌, length, map, take, drop, get_or, Some, refl, sym, ap, subst, ◌∙◌, arith, length-drop}
 use Rattle.std.specs.List.{All, sum, sum_by, list_any, list_all, position}
 use Rattle.std.specs.Str.{bytes_eq}
-use Rattle.std.proofs.lemmas.Bool.{and_parts, or_parts, eqb-false, eqb-true, ltb-false, lt-ltb}
+use Rattle.std.proofs.lemmas.Bool.{and_parts, lt-ltb}
 use Rattle.std.proofs.lemmas.List.{length-map, length-take-le}
 use Rattle.std.proofs.lemmas.List.Sums.{sum-map}
 use Rattle.std.proofs.lemmas.List.Elements.{All-nil, All-cons, All-head, All-tail, All-append, All-take, All-drop, All-map, All-weaker}
 use Rattle.indexmap.specs.IndexSet.{insert_key, insert_all}
-use Rattle.gate_values.specs.declared.Kind.{Kind}
-use Rattle.gate_values.specs.Gates.{is_unary}
+use Rattle.gate_values.specs.Gates.{allows}
 use Rattle.bench_reader.specs.declared.netlist.Definition.{Definition}
 use Rattle.bench_reader.specs.declared.netlist.Definition.TheVariants.{Missing, Input, Gate}
 use Rattle.bench_reader.specs.declared.reader.Reader.{Reader}
@@ -37,15 +36,6 @@ inserted_below n ks (x ∷ xs) h g = inserted_below n (insert_key nat_eq ks x) x
     cases true = h
     cases false = All-append (λ p. p < n) ks (x ∷ []) h (All-cons (λ p. p < n) x [] (All-head (λ p. p < n) x xs g) (All-nil (λ p. p < n)))
 
--- a count that a kind takes
-one_pin : (kind : Kind) (count : ℕ) → (is_unary kind && not (eqb count 1)) ≡ false → IsTrue (is_unary kind) → count ≡ 1
-one_pin kind count h unary = eqb-true count 1 (cases (is_unary kind) (eqb count 1) unary h)
-  where
-    cases : (u e : Bool) → IsTrue u → (u && not e) ≡ false → e ≡ true
-    cases true true t h = refl
-    cases true false t h = absurd cc
-    cases false e t h = absurd cc
-
 piece_len : (pins : List ℕ) (start count : ℕ) → start + count ≤ length pins → length (take count (drop start pins)) ≡ count
 piece_len pins start count h = length-take-le count (drop start pins) (omega (arith, length-drop start pins))
 
@@ -54,18 +44,10 @@ driver_fits signals pins (Missing line) below h = tt
 driver_fits signals pins Input below h = tt
 driver_fits signals pins (Gate kind count start) below h =
     let len = piece_len pins start count h.within in
-    let first = or_parts (eqb count 0 || ltb 64 count) (is_unary kind && not (eqb count 1)) (grouped (eqb count 0) (ltb 64 count) (is_unary kind && not (eqb count 1)) h.counted) in
-    let counts = or_parts (eqb count 0) (ltb 64 count) first.0 in
     record {
-      some = omega (arith, len, eqb-false count 0 counts.0);
-      few = omega (arith, len, ltb-false 64 count counts.1);
-      one = λ unary. len ∙ one_pin kind count first.1 unary;
+      count = subst (λ n. IsTrue (allows kind n)) (sym len) h.counted;
       signal = All-take (λ p. p < signals) count (drop start pins) (All-drop (λ p. p < signals) start pins below);
     }
-  where
-    grouped : (a b c : Bool) → (a || b || c) ≡ false → ((a || b) || c) ≡ false
-    grouped true b c h = h
-    grouped false b c h = h
 
 drivers_fit : (signals : ℕ) (pins : List ℕ) (rows : List Definition) → All (λ p. p < signals) pins → All (FitsRows (length pins)) rows → All (IsNetlistDriver signals) (map (driver pins) rows)
 drivers_fit signals pins rows below fits = All-map (IsNetlistDriver signals) (driver pins) rows (All-weaker (FitsRows (length pins)) (λ d. IsNetlistDriver signals (driver pins d)) (λ d h. driver_fits signals pins d below h) rows fits)

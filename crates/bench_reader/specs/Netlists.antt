@@ -1,10 +1,10 @@
 -- What a netlist in the `.bench` form says, or its first fault.
-use Rattle.std.specs.Prelude.{◌≡◌, ℕ, ◌+◌, ◌<◌, ◌≤◌, IsTrue, Bool, false, not, ◌&&◌, ◌||◌, ◌==◌, nat_eq, nat_lt, List, [], ◌∷◌, ◌++◌, length, map, find, slice_index_or, position, sum_by, Option, Some, None, Result, Ok, if◌then◌else◌}
+use Rattle.std.specs.Prelude.{◌≡◌, ℕ, ◌+◌, ◌<◌, ◌≤◌, IsTrue, Bool, false, ◌||◌, nat_eq, nat_lt, List, [], ◌∷◌, ◌++◌, length, map, find, slice_index_or, position, sum_by, Option, Some, None, Result, Ok, if◌then◌else◌}
 use Rattle.std.specs.List.{All, list_all, list_any, flat_map, position_or_len}
 use Rattle.std.specs.Str.{bytes_eq}
 use Rattle.indexmap.specs.IndexSet.{insert_all}
 use Rattle.gate_values.specs.declared.Kind.{Kind}
-use Rattle.gate_values.specs.Gates.{is_unary}
+use Rattle.gate_values.specs.Gates.{allows}
 use Rattle.gate_values.specs.Spelling.{kind_of_word}
 use Rattle.text_rules.specs.Text.{lines}
 use Rattle.bench_reader.specs.declared.fault.BenchCause.{BenchCause}
@@ -70,10 +70,6 @@ number all name = place (names all) name
 abbrev pub is_long : List ℕ → Bool
 is_long name = nat_lt 255 (length name)
 
--- a gate of this kind does not take this many pins
-abbrev pub miscounts : Kind → ℕ → Bool
-miscounts kind pins = pins == 0 || nat_lt 64 pins || (is_unary kind && not (pins == 1))
-
 -- more names or pins than a netlist may have
 abbrev pub exceeds : ℕ → ℕ → Bool
 exceeds names pins = nat_lt 1048576 names || nat_lt 4194304 pins
@@ -91,7 +87,7 @@ cause_of_names before line twice =
 -- a gate line first by its kind and its pins; it may define no name that an earlier line defined
 abbrev pub cause_of_gate : List Line → List ℕ → List ℕ → List (List ℕ) → Option Kind → Option BenchCause
 cause_of_gate before name word pins None = Some UnknownKind
-cause_of_gate before name word pins (Some kind) = if miscounts kind (length pins) then Some PinCount else cause_of_names before (Gate name word pins) (is_among (flat_map defined_in before) name)
+cause_of_gate before name word pins (Some kind) = if allows kind (length pins) then cause_of_names before (Gate name word pins) (is_among (flat_map defined_in before) name) else Some PinCount
 
 -- the cause of a line, after the lines before it; an INPUT line may define a name that an earlier INPUT line defined
 abbrev pub cause_of : List Line → Line → Option BenchCause
@@ -130,9 +126,7 @@ pins_of (Driven kind pins) = pins
 
 -- pins of a gate of this kind, among so many signals
 pub record ArePins (signals : ℕ) (kind : Kind) (pins : List ℕ) : Type 0 where
-  pub some : 1 ≤ length pins
-  pub few : length pins ≤ 64
-  pub one : IsTrue (is_unary kind) → length pins ≡ 1
+  pub count : IsTrue (allows kind (length pins))
   pub signal : All (λ p. p < signals) pins
 
 abbrev pub IsNetlistDriver : ℕ → NetlistDriver → Type 0

@@ -1,7 +1,8 @@
 //! Reading the lines one after another.
 
-ghost use Rattle.std.specs.Prelude.{◌≡◌, ◌+◌, ◌<◌, ◌≤◌, ℕ, false, List, [], ◌∷◌, length, OnOk, IfOk, IfErr};
+ghost use Rattle.std.specs.Prelude.{◌≡◌, ◌+◌, ◌<◌, ◌≤◌, ℕ, IsTrue, false, List, [], ◌∷◌, length, OnOk, IfOk, IfErr};
 ghost use Rattle.std.specs.List.{list_any};
+ghost use Rattle.gate_values.specs.Gates.{allows};
 ghost use Rattle.bench_reader.specs.Lines.{Input, Output, Gate, line_of};
 ghost use Rattle.bench_reader.specs.Netlists.{out_of_memory, bench_of};
 ghost use Rattle.bench_reader.specs.Netlists as netlists;
@@ -30,10 +31,8 @@ pub struct Reader {
     pub outputs: Outputs,
 }
 
-/// The most bytes of a name, pins of a gate, names of a netlist and pins of all its gates.
+/// The most bytes of a name, names of a netlist and pins of all its gates.
 const LONGEST_NAME: usize = 255;
-
-const MOST_GATE_PINS: usize = 64;
 
 const MOST_NAMES: usize = 1_048_576;
 
@@ -69,12 +68,6 @@ fn is_defined(rows: &[Definition], id: u32) -> bool
         Some(_) => true,
         None => false,
     }
-}
-
-fn is_miscounted(kind: Kind, pins: usize) -> bool
-    ensures { result ≡ netlists.miscounts kind pins }
-{
-    pins == 0 || pins > MOST_GATE_PINS || (kind.is_unary() && pins != 1)
 }
 
 fn is_long(name: &[u8]) -> bool
@@ -174,7 +167,7 @@ impl Reader {
     ) -> Result<(), BenchFault>
         requires sound { IsSoundReading self.old }
         requires few { length pins.now ≤ 64 }
-        requires counted { netlists.miscounts kind (length pins.now) ≡ false }
+        requires counted { IsTrue (allows kind (length pins.now)) }
         ensures sound { OnOk result (IsSoundReading self.new) }
         ensures steps { (word : List ℕ) → CountsPins name.now word kind (each_now pins.now)
             → Takes self.old (Gate name.now word (each_now pins.now)) line self.new result }
@@ -214,7 +207,7 @@ impl Reader {
             None => return fault(BenchCause::UnknownKind, line),
             Some(kind) => kind,
         };
-        if is_miscounted(kind, pins.len()) {
+        if !kind.allows(pins.len()) {
             return fault(BenchCause::PinCount, line);
         }
         if is_any_long(name, pins) {

@@ -6,6 +6,7 @@ use Rattle.std.proofs.Math.ListN.{length-map}
 use Rattle.gate_values.specs.declared.Value.TheVariants.{X}
 use Rattle.gate_values.specs.declared.Kind.{Kind}
 use Rattle.gate_values.specs.Gates.{gate_value, is_unknown}
+use Rattle.gate_values.proofs.Pins.{allows-some}
 use Rattle.gate_values.proofs.Unknown.{gate_value-unknown}
 use Rattle.flip_flops.specs.Edges.{shown_edge, flop_span}
 use Rattle.valid_intervals.specs.Spans.{from_to}
@@ -59,7 +60,7 @@ module _ (c : Circuit) (t : ℕ) where
 
   driver-answer : (n h : ℕ) (d : Driver) → IsDriver n h d → IsAnswer d (base_from (c.horizon + 1) t d)
   driver-answer n h (Input settings) ok = (refl, λ k. k)
-  driver-answer n h (Gate kind pins) ok = gate-answer kind pins ok.some
+  driver-answer n h (Gate kind pins) ok = gate-answer kind pins (allows-some kind (length pins) ok.count)
   driver-answer n h (Flop f) ok = flop-answer f (shown_edge f.clock f.delay t) refl
 
 pub base-answers : (c : Circuit) → IsCircuit c → (s t : ℕ) → MatchOption (base_answer c s t) (IsEvaluable c s t) (λ x. (x ≡ cell_at c (point_at s t)) × (IsEvaluable c s t → ⊥))

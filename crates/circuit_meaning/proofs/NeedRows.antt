@@ -30,9 +30,7 @@ long-fits =
     let pins : List Pin = pin 0 1 ∷ [] in
     let input : IsDriver 2 200000 (Input settings) = record { within = All-from_recursion (λ s. s.time ≤ 200000) settings (omega arith, tt); different = λ i j d l h. absurd (omega arith) } in
     let gate : IsDriver 2 200000 (Gate Not pins) = record {
-      some = omega arith;
-      few = omega arith;
-      one = λ e. refl;
+      count = refl;
       signal = All-from_recursion (λ p. p.signal < 2) pins (omega arith, tt);
       delay = All-from_recursion (λ p. 1 ≤ p.delay) pins (omega arith, tt);
     } in

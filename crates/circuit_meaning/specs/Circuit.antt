@@ -1,7 +1,7 @@
 -- A circuit: what drives each signal, and its horizon.
-use Rattle.std.specs.Prelude.{◌≡◌, ℕ, ◌≤◌, ◌<◌, IsTrue, List, [], ◌∷◌, length, slice_index_or, map, All, AllPairs, ◌≢◌, IfSome, sum_by}
+use Rattle.std.specs.Prelude.{ℕ, ◌≤◌, ◌<◌, IsTrue, List, [], ◌∷◌, length, slice_index_or, map, All, AllPairs, ◌≢◌, IfSome, sum_by}
 use Rattle.gate_values.specs.declared.Kind.{Kind}
-use Rattle.gate_values.specs.Gates.{is_unary}
+use Rattle.gate_values.specs.Gates.{allows}
 pub use Rattle.circuit_meaning.specs.declared.Setting.{Setting}
 pub use Rattle.circuit_meaning.specs.declared.Pin.{Pin}
 pub use Rattle.flip_flops.specs.declared.Clock.{Clock}
@@ -34,11 +34,9 @@ pub record AreSettings (horizon : ℕ) (settings : List Setting) : Type 0 where
   pub within : All (λ s. s.time ≤ horizon) settings
   pub different : AllPairs (λ a b. a.time ≢ b.time) settings
 
--- a gate has 1 to 64 pins, a unary gate one; each pin reads a signal of the circuit with a delay of at least 1
+-- a gate has as many pins as its kind allows; each pin reads a signal of the circuit with a delay of at least 1
 pub record ArePins (signals : ℕ) (kind : Kind) (pins : List Pin) : Type 0 where
-  pub some : 1 ≤ length pins
-  pub few : length pins ≤ 64
-  pub one : IsTrue (is_unary kind) → length pins ≡ 1
+  pub count : IsTrue (allows kind (length pins))
   pub signal : All (λ p. p.signal < signals) pins
   pub delay : All (λ p. 1 ≤ p.delay) pins
 

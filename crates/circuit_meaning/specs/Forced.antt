@@ -1,5 +1,5 @@
 -- A circuit with one signal forced to a value.
-use Rattle.std.specs.Prelude.{◌≡◌, ℕ, ◌≤◌, ◌<◌, [], ◌∷◌, slice_set, ◌≢◌}
+use Rattle.std.specs.Prelude.{◌≡◌, ℕ, [], ◌∷◌, slice_set}
 use Rattle.gate_values.specs.declared.Value.{Value}
 use Rattle.circuit_meaning.specs.Circuit.{Input, Circuit, driver, IsCircuit}
 use Rattle.circuit_meaning.specs.Forward.{value}

@@ -9,6 +9,7 @@ use Rattle.gate_values.specs.declared.Value.{Value}
 use Rattle.gate_values.specs.declared.Value.TheVariants.{X}
 use Rattle.gate_values.specs.declared.Kind.{Kind}
 use Rattle.gate_values.specs.Gates.{is_unknown}
+use Rattle.gate_values.proofs.Pins.{allows-some}
 use Rattle.gate_values.proofs.Unknown.{gate_value-unknown}
 use Rattle.valid_intervals.specs.declared.Cell.{Cell}
 use Rattle.valid_intervals.specs.Spans.{Span, from_to}
@@ -82,7 +83,7 @@ module _ (c : Circuit) (ok : IsCircuit c) (s t limit : ℕ) (top : limit ≡ c.h
         let early : AllByRecursion (λ p. is_unknown (seen_value (value c) t p) ≡ true) pins =
         all_imply (λ p. least_delay pins ≤ p.delay) (λ p. is_unknown (seen_value (value c) t p) ≡ true) (λ p h. ap is_unknown (seen-early (value c) t p (omega arith))) pins (least pins) in
         let shown : value c s t ≡ X = value_is c ok s t ∙ ap (value_from (value c) t) src.driver
-        ∙ gate_value-unknown kind (map (seen_value (value c) t) pins) (map_all (λ v. is_unknown v ≡ true) (seen_value (value c) t) pins early) (rw length-map src.sound.some) in
+        ∙ gate_value-unknown kind (map (seen_value (value c) t) pins) (map_all (λ v. is_unknown v ≡ true) (seen_value (value c) t) pins early) (rw length-map (allows-some kind (length pins) src.sound.count)) in
         let there : span c s t ≡ from_to 0 (min m (c.horizon + 1)) = span_is c ok s t ∙ ap (span_from c (span c) t) src.driver
         ∙ gate_span-early (c.horizon + 1) t (least_delay pins) (map (pin_span (span c) t) (looked_pins c t kind pins)) l' ∙ ap (λ n. from_to 0 (min n (c.horizon + 1))) (sym src.fits.1) in
         e ∙ cell-is (record { span = from_to 0 (min m limit); value = X }) (span c s t) (value c s t) (ap (λ n. from_to 0 (min m n)) top ∙ sym there) (sym shown)

@@ -11,7 +11,8 @@ use Rattle.gate_values.specs.declared.Kind.{Kind}
 use Rattle.gate_values.specs.declared.Kind.TheVariants.{And, Nand, Or, Nor, Xor, Xnor, Not, Buff, Dff}
 use Rattle.gate_values.specs.declared.Value.{Value}
 use Rattle.gate_values.specs.declared.Value.TheVariants.{X, Z}
-use Rattle.gate_values.specs.Gates.{is_unary}
+use Rattle.gate_values.specs.Gates.{allows, is_unary}
+use Rattle.gate_values.proofs.Pins.{allows-one, allows-some}
 use Rattle.flip_flops.specs.declared.Clock.{Clock}
 use Rattle.flip_flops.specs.Edges.{IsClock}
 use Rattle.circuit_meaning.specs.declared.Setting.{Setting}
@@ -238,7 +239,7 @@ module _ (netlist : netlists.Content) (timing : timings.Content) (stimulus : sti
 
   gate-sound : (s : ℕ) (b : Bool) (kind : Kind) (pins : List ℕ) → netlists.ArePins n kind pins → IsDriver n stimulus.horizon (joined_gate netlist timing s b kind pins)
   gate-sound s true kind pins ok = record {
-    pin = ok.signal 0 0 (omega (arith, ok.some));
+    pin = ok.signal 0 0 (let some = allows-some kind (length pins) ok.count in omega (arith, some));
     delay = (delay-range netlist timing t-ok s Dff).0;
     period = if_some IsClock (λ (clock : Clock). 1 ≤ clock.period) (λ clock k. k.some) (or_else (rows_say netlist timing.rows s (clock_said timing)) timing.clock) (clock-range netlist timing t-ok s);
     initial = initial-range netlist timing t-ok s;
@@ -248,9 +249,7 @@ module _ (netlist : netlists.Content) (timing : timings.Content) (stimulus : sti
       let long = length-pin_delays netlist timing s kind pins in
       let same = length-pins_with pins delays long in
       record {
-        some = omega (arith, same, ok.some);
-        few = omega (arith, same, ok.few);
-        one = λ u. same ∙ ok.one u;
+        count = subst (λ n. IsTrue (allows kind n)) (sym same) ok.count;
         signal = λ k d l. subst (λ (p : Pin). p.signal < n) (sym (get_or-pins_with pins delays k d long (omega (arith, same, l)))) (ok.signal k 0 (omega (arith, same, l)));
         delay = λ k d l. subst (λ (p : Pin). 1 ≤ p.delay) (sym (get_or-pins_with pins delays k d long (omega (arith, same, l))))
             (subst (λ x. 1 ≤ x) (sym (get_or-map-range_with_len (pin_delay netlist timing s kind) 0 (length pins) k k 0 (omega (arith, same, l)) (omega arith))) (pin-range netlist timing t-ok s kind k).0);
@@ -275,7 +274,7 @@ module _ (netlist : netlists.Content) (timing : timings.Content) (stimulus : sti
 
   -- a joined driver has the pins of its row
   gate-count : (s : ℕ) (b : Bool) (kind : Kind) (pins : List ℕ) → is_dff kind ≡ b → netlists.ArePins n kind pins → pin_count (joined_gate netlist timing s b kind pins) ≡ length pins
-  gate-count s true kind pins e ok = sym (ok.one (dff-unary kind e))
+  gate-count s true kind pins e ok = sym (allows-one kind (length pins) ok.count (dff-unary kind e))
   gate-count s false kind pins e ok =
       let delays = pin_delays netlist timing s kind pins in
       length-map (pins_with pins delays) (λ p. p.signal) ∙ length-pins_with pins delays (length-pin_delays netlist timing s kind pins)
@@ -329,7 +328,7 @@ module _ (netlist : netlists.Content) (timing : timings.Content) (stimulus : sti
       let f = flop_of netlist timing s pins in
       let alone : flops_at netlist timing s ≡ f ∷ [] = ap (flops_of netlist timing s) is ∙ ap (λ b. cond b (f ∷ []) []) dff in
       let at : flop_at made (length (of_first (flops_at netlist timing) s)) ≡ f = one-stands (flops_at netlist timing) n s l f alone _ in
-      (ap circuits.Flop at, (one-within (flops_at netlist timing) n s l f alone, single pins (ok.one (dff-unary kind dff)) ∙ ap (λ (g : FlipFlop). g.pin ∷ []) (sym at)))
+      (ap circuits.Flop at, (one-within (flops_at netlist timing) n s l f alone, single pins (allows-one kind (length pins) ok.count (dff-unary kind dff)) ∙ ap (λ (g : FlipFlop). g.pin ∷ []) (sym at)))
   gate-stands s l false kind pins dff is ok =
       let delays = pin_delays netlist timing s kind pins in
       let start = length (of_first (delays_at netlist timing) s) in

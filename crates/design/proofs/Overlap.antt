@@ -7,6 +7,7 @@ use Rattle.gate_values.specs.declared.Value.TheVariants.{X}
 use Rattle.gate_values.specs.declared.Kind.{Kind}
 use Rattle.gate_values.specs.declared.Kind.TheVariants.{Dff}
 use Rattle.gate_values.specs.Gates.{up_to_first, decides}
+use Rattle.gate_values.proofs.Pins.{allows-some}
 use Rattle.gate_values.proofs.Looked.{cut_alike, map-up_to_first}
 use Rattle.valid_intervals.specs.declared.Point.{Point}
 use Rattle.valid_intervals.specs.Spans.{Span, from_to, meet, cut_at}
@@ -91,7 +92,7 @@ module _ (c : Circuit) (ok : IsCircuit c) (s t limit : ℕ) (top : limit ≡ c.h
         ∙ sym (map-map (cut_at (c.horizon + 1)) (pin_span (span c) t) cut)
 
     some-part : 1 ≤ length (map (pin_span (span c) t) (looked_pins c t kind pins))
-    some-part = rw (length-map (looked_pins c t kind pins) (pin_span (span c) t)) (cut-some (λ p. decides kind (seen_value (value c) t p)) pins src.sound.some)
+    some-part = rw (length-map (looked_pins c t kind pins) (pin_span (span c) t)) (cut-some (λ p. decides kind (seen_value (value c) t p)) pins (allows-some kind (length pins) src.sound.count))
 
     gate-meets : meet (met_interval c s t (length (looked_points c s t))) (from_to m limit) ≡ span c s t
     gate-meets =

@@ -30,6 +30,9 @@ ghost use Rattle.gate_values.specs.Gates as gates;
 
 use std::marker::Model;
 
+/// A gate has at most so many pins.
+const MOST_GATE_PINS: usize = 64;
+
 /// The value of a signal.
 #[derive(Clone, Copy, Debug, PartialEq, Eq)]
 pub enum Value {
@@ -207,6 +210,13 @@ impl Kind {
         matches!(self, Kind::Not | Kind::Buff | Kind::Dff)
     }
 
+    /// Whether such a gate may have so many pins: 1 to 64, and one if it is unary.
+    pub fn allows(self, pins: usize) -> bool
+        ensures { result ≡ gates.allows self pins }
+    {
+        1 <= pins && pins <= MOST_GATE_PINS && (!self.is_unary() || pins == 1)
+    }
+
     /// Whether a pin with this value decides the gate, whatever its other pins are. No value decides a unary gate.
     pub fn decides(self, value: Value) -> bool
         ensures { result ≡ gates.decides self value }
@@ -302,7 +312,7 @@ pub fn eval_all(kind: Kind, pins: &[Value]) -> Value
 #[derive(Drop)]
 pub struct Look {
     kind: Kind,
-    seen: [Value; 64],
+    seen: [Value; MOST_GATE_PINS],
     count: usize,
 }
 
@@ -321,7 +331,7 @@ impl Look {
     {
         Look {
             kind,
-            seen: [Value::X; 64],
+            seen: [Value::X; MOST_GATE_PINS],
             count: 0,
         }
     }

@@ -11,6 +11,7 @@ use Rattle.std.proofs.Math.ListN.{get_or-map, length-map}
 use Rattle.gate_values.specs.declared.Value.{Value}
 use Rattle.gate_values.specs.declared.Evaluation.{Evaluation}
 use Rattle.gate_values.specs.Gates.{gate_value, decides, is_unary, up_to_first}
+use Rattle.gate_values.proofs.Pins.{allows-few, allows-one, allows-some}
 use Rattle.valid_intervals.specs.declared.Point.{Point}
 use Rattle.valid_intervals.specs.Spans.{Span, IsIn, from_to, meet, cut_at}
 use Rattle.flip_flops.specs.Edges.{shown_edge}
@@ -47,7 +48,7 @@ sources-count t (Flop f) h = go (shown_edge f.clock f.delay t) h
 
 unary-sources : (n h t : ℕ) (d : Driver) → IsDriver n h d → IsTrue (is_unary (kind_of d)) → length (pin_points_at t d) ≤ 1
 unary-sources n h t (Input settings) ok u = omega arith
-unary-sources n h t (Gate kind pins) ok u = let e = ok.one u in let l = length-map pins (pin_point t) in omega arith
+unary-sources n h t (Gate kind pins) ok u = let e = allows-one kind (length pins) ok.count u in let l = length-map pins (pin_point t) in omega arith
 unary-sources n h t (Flop f) ok u = go (shown_edge f.clock f.delay t)
   where
     go : (o : Option ℕ) → length (flop_points f.pin o) ≤ 1
@@ -56,12 +57,12 @@ unary-sources n h t (Flop f) ok u = go (shown_edge f.clock f.delay t)
 
 some-pin : (n h t : ℕ) (d : Driver) → IsDriver n h d → HasChildren t d → 1 ≤ length (pin_points_at t d)
 some-pin n h t (Input settings) ok e = absurd e
-some-pin n h t (Gate kind pins) ok e = let l = length-map pins (pin_point t) in let k = ok.some in omega arith
+some-pin n h t (Gate kind pins) ok e = let l = length-map pins (pin_point t) in let k = allows-some kind (length pins) ok.count in omega arith
 some-pin n h t (Flop f) ok e = let k = sources-count t (Flop f) e in omega arith
 
 few-pins : (n h : ℕ) (d : Driver) → IsDriver n h d → length (read_by d) ≤ 64
 few-pins n h (Input settings) ok = omega arith
-few-pins n h (Gate kind pins) ok = let l = length-map pins (λ p. p.signal) in let k = ok.few in omega arith
+few-pins n h (Gate kind pins) ok = let l = length-map pins (λ p. p.signal) in let k = allows-few kind (length pins) ok.count in omega arith
 few-pins n h (Flop f) ok = omega arith
 
 reads-within : (n h : ℕ) (d : Driver) (k : ℕ) → IsDriver n h d → k < length (read_by d) → get_or (read_by d) k 0 < n

@@ -203,9 +203,7 @@ one-right = record { within = All-from_recursion (λ (s : Setting). s.time ≤ 1
 
 buff-right : (a : ℕ) → a < 4 → IsDriver 4 10 (buff a)
 buff-right a h = record {
-  some = omega arith;
-  few = omega arith;
-  one = λ k. refl;
+  count = refl;
   signal = All-from_recursion (λ (p : Pin). p.signal < 4) (record { signal = a; delay = 1 } ∷ []) (h, tt);
   delay = All-from_recursion (λ (p : Pin). 1 ≤ p.delay) (record { signal = a; delay = 1 } ∷ []) (omega arith, tt);
 }

@@ -1,5 +1,6 @@
 -- The value of a signal by what drives it.
 use Rattle.std.proofs.Common.{◌≡◌, ℕ, ◌-◌, ◌<◌, ◌≤◌, List, [], ◌∷◌, map, length, get_or, take, set, ◌+◌, ◌++◌, Vec, Global, Option, Some, None, refl, sym, ap, ◌∙◌, subst, arith, lt-ltb, le-ltb, take_all}
+use Rattle.gate_values.proofs.Pins.{allows-few}
 use Rattle.gate_values.specs.declared.Value.{Value}
 use Rattle.gate_values.specs.declared.Value.TheVariants.{X}
 use Rattle.gate_values.specs.declared.Kind.{Kind}
@@ -58,7 +59,7 @@ module _ (c : Circuit) (ok : IsCircuit c) (s t : ℕ) (r : Element) (e : driver 
   pub few-pins : (kind : Kind) (v : Vec Pin Global) → r ≡ GateElement kind v → length v.items ≤ 64
   few-pins kind v q =
       let fits : IsDriver (length c.drivers) c.horizon (Gate kind v.items) = subst (IsDriver (length c.drivers) c.horizon) (e ∙ ap driver_of q) (driver_fits c ok s) in
-      fits.few
+      allows-few kind (length v.items) fits.count
 
 -- one pin more is seen
 pub see-more : (f : Pin → Value) (seen_value : List Value) (pins : List Pin) (i : ℕ) (w : Value) (d : Pin) → i < length seen_value → i < length pins → take i seen_value ≡ map f (take i pins) → w ≡ f (get_or pins i d) → take (i + 1) (set seen_value i w) ≡ map f (take (i + 1) pins)

@@ -74,9 +74,9 @@ fn are_settings(settings: &[Setting], horizon: u32) -> bool
 fn are_pins(kind: Kind, pins: &[Pin], signals: u64) -> bool
     ensures { IsTrue result ↔ ArePins signals kind pins.now }
 {
-    let count = pins.len();
-    let few = 1 <= count && count <= 64 && (!kind.is_unary() || count == 1);
-    few && pins.iter().all(|p| (p.signal as u64) < signals) && pins.iter().all(|p| 1 <= p.delay)
+    kind.allows(pins.len())
+        && pins.iter().all(|p| (p.signal as u64) < signals)
+        && pins.iter().all(|p| 1 <= p.delay)
 }
 
 fn is_flip_flop(f: FlipFlop, signals: u64) -> bool

@@ -1,10 +1,11 @@
 -- What only the proofs and the private functions of this crate speak of, beside `KeptNetlists`.
-use Rattle.std.specs.Prelude.{◌≡◌, ℕ, ◌+◌, ◌≤◌, List, map, take, drop, length, false, sum_by, ⊤}
+use Rattle.std.specs.Prelude.{◌≡◌, ℕ, IsTrue, ◌+◌, ◌≤◌, List, map, take, drop, length, sum_by, ⊤}
 use Rattle.std.specs.List.{All}
 use Rattle.gate_values.specs.declared.Kind.{Kind}
+use Rattle.gate_values.specs.Gates.{allows}
 use Rattle.bench_reader.specs.declared.netlist.Definition.{Definition}
 use Rattle.bench_reader.specs.declared.netlist.Definition.TheVariants as definition
-use Rattle.bench_reader.specs.Netlists.{NetlistDriver, Primary, Driven, Content, IsNetlist, miscounts}
+use Rattle.bench_reader.specs.Netlists.{NetlistDriver, Primary, Driven, Content, IsNetlist}
 
 -- what drives the signal that has this definition, in a netlist with these pins
 abbrev pub driver : List ℕ → Definition → NetlistDriver
@@ -21,7 +22,7 @@ pin_count (definition.Gate kind count start) = count
 -- a gate's pins lie among so many, and are as many as its kind takes
 pub record IsPlaced (pins : ℕ) (kind : Kind) (start count : ℕ) : Type 0 where
   pub within : start + count ≤ pins
-  pub counted : miscounts kind count ≡ false
+  pub counted : IsTrue (allows kind count)
 
 abbrev pub FitsRows : ℕ → Definition → Type 0
 FitsRows pins (definition.Missing line) = ⊤

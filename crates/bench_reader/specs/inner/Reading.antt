@@ -1,8 +1,9 @@
 -- What the reader knows between two lines.
-use Rattle.std.specs.Prelude.{◌≡◌, ℕ, ◌+◌, ◌-◌, ◌<◌, ◌≤◌, Bool, true, false, nat_eq, List, [], ◌∷◌, ◌++◌, length, map, take, drop, replicate, find, Option, Some, None, Result, slice_index_or}
+use Rattle.std.specs.Prelude.{◌≡◌, ℕ, IsTrue, ◌+◌, ◌-◌, ◌<◌, ◌≤◌, Bool, true, false, nat_eq, List, [], ◌∷◌, ◌++◌, length, map, take, drop, replicate, find, Option, Some, None, Result, slice_index_or}
 use Rattle.std.specs.List.{flat_map, list_all, list_any}
 use Rattle.indexmap.specs.IndexSet.{insert_all}
 use Rattle.gate_values.specs.declared.Kind.{Kind}
+use Rattle.gate_values.specs.Gates.{allows}
 use Rattle.gate_values.specs.Spelling.{kind_of_word}
 use Rattle.line_faults.specs.declared.causes.LineFault.{LineFault}
 use Rattle.line_faults.specs.Reading.{TakesLine}
@@ -13,7 +14,7 @@ use Rattle.bench_reader.specs.declared.netlist.Definition.TheVariants.{Missing, 
 use Rattle.bench_reader.specs.declared.reader.Reader.{Reader}
 use Rattle.bench_reader.specs.Lines.{Line}
 use Rattle.bench_reader.specs.Lines as line
-use Rattle.bench_reader.specs.Netlists.{names, pins_in, outputs_in, gates_in, defined_in, drives, is_among, is_long, place, miscounts, cause_of}
+use Rattle.bench_reader.specs.Netlists.{names, pins_in, outputs_in, gates_in, defined_in, drives, is_among, is_long, place, cause_of}
 use Rattle.bench_reader.specs.inner.KeptNetlists.{IsKeptNetlist}
 
 abbrev pub IsSoundReading : Reader → Type 0
@@ -111,5 +112,5 @@ IsRead before r = IsSoundReading r × HasRead before r
 -- the kind is known, takes so many pins, and no name is too long
 pub record CountsPins (name word : List ℕ) (kind : Kind) (pins : List (List ℕ)) : Type 0 where
   pub kind_is : kind_of_word word ≡ Some kind
-  pub counted : miscounts kind (length pins) ≡ false
+  pub counted : IsTrue (allows kind (length pins))
   pub short : list_any is_long (name ∷ pins) ≡ false
