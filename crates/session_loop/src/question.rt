@@ -30,7 +30,7 @@ use worker_gate::Crew;
 
 /// A question that was answered: its reply as text, the counts with its section, and what is kept of the last stuck signal.
 #[derive(Drop)]
-struct Asked {
+struct AnsweredQuestion {
     done: QuestionDone,
     text: Vec<u8>,
     counts: Counts,
@@ -44,7 +44,7 @@ fn ask(
     stores: Vec<CellStore>,
     counts: Counts,
     last_site: Option<LastSite>,
-) -> Result<Asked, OutOfMemory>
+) -> Result<AnsweredQuestion, OutOfMemory>
     requires suits { SuitsWindow question.now.asks question.now.window }
     requires stores { AreStores (memo_of service.now) stores.items }
     requires site { IfSome last_site (λ last. last ≡ service.now.design.now) }
@@ -64,7 +64,7 @@ fn ask(
     let Some(counts) = count_section(counts, SectionKind::Batch, &done.lists) else {
         return Err(OutOfMemory);
     };
-    Ok(Asked {
+    Ok(AnsweredQuestion {
         done,
         text,
         counts,
@@ -93,7 +93,7 @@ pub fn serve_question<C: Crew, F: Files, S: Sink>(
         dumps,
         last_site,
     } = desk;
-    let Asked {
+    let AnsweredQuestion {
         done,
         text,
         counts,

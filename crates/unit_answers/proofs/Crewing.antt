@@ -20,14 +20,15 @@ use Rattle.demand_points.specs.Demands.{Demand}
 use Rattle.memo_shards.specs.KeptShards.{KeptShard}
 use Rattle.plan_core.specs.Parts.{shards_in, strands_in}
 use Rattle.window_answers.specs.Settlement.{HasSettled}
-use Rattle.worker_gate.specs.Ends.{task_of, booked_in, AreEnds, AreFilled}
+use Rattle.plan_core.specs.InTurn.{task_of, booked_by}
+use Rattle.worker_gate.specs.Ends.{AreEnds, AreFilled}
 use Rattle.unit_answers.specs.Crewed.{IsEndOf, HasCrewed}
 
 -- the claims and fills of shards are those of their journals
-booked-lists : (ms : List KeptShard) → sum_by booked_in ms ≡ sum_by booked_count (journals_of (shards_in ms))
+booked-lists : (ms : List KeptShard) → sum_by booked_by ms ≡ sum_by booked_count (journals_of (shards_in ms))
 booked-lists [] = refl
 booked-lists (m ∷ ms) =
-    let a = sum_by-cons booked_in m ms in
+    let a = sum_by-cons booked_by m ms in
     let b = sum_by-cons booked_count m.shard.journal (journals_of (shards_in ms)) in
     let more = booked-lists ms in
     omega arith
@@ -65,7 +66,7 @@ module _ (c : Circuit) (starts : List Start) (strands : List Demand) (same : str
 
   -- the batch was run by a crew, and then settled
   pub has-crewed : (b : Batch) (opening : ℕ → List SignalCell) (handed ms : List KeptShard) (os : List (Outcome (List Run))) (lists : List (List Entry)) (is_open : Bool) → HasSettled b opening handed ms os → lists ≡ map (λ m. m.shard.journal) ms
-      → sum counts ≡ sum_by booked_in handed → length places ≡ length strands → length counts ≡ length strands → (is_open ≡ true → AreFilled places) → HasCrewed starts is_open lists
+      → sum counts ≡ sum_by booked_by handed → length places ≡ length strands → length counts ≡ length strands → (is_open ≡ true → AreFilled places) → HasCrewed starts is_open lists
   has-crewed b opening handed ms os lists is_open settled journals counted many amounts filled = record {
     left = journals_of (shards_in handed);
     added = settled.settled.added;

@@ -7,7 +7,7 @@ use Rattle.cell_store.specs.Recency.{Contents, contents}
 use Rattle.journal_meaning.specs.declared.Entry.{Entry}
 use Rattle.batch_meaning.specs.Batches.{Batch}
 use Rattle.memo_shards.specs.KeptShards.{KeptShard, shard_at}
-use Rattle.worker_gate.specs.Ends.{AreInOrder}
+use Rattle.plan_core.specs.Parts.{AreInOrder}
 use Rattle.unit_answers.specs.inner.Runs.{store_of, AreOpened, AreBegun}
 
 -- what is said of each place holds of one more

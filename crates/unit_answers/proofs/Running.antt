@@ -24,12 +24,12 @@ use Rattle.design.specs.Joined.{IsDesign}
 use Rattle.demand_points.specs.Demands.{Demand}
 use Rattle.memo_shards.specs.KeptShards.{KeptShard}
 use Rattle.plan_core.specs.InTurn.{AreStarted}
-use Rattle.plan_core.specs.Parts.{shards_in, strands_in}
+use Rattle.plan_core.specs.Parts.{shards_in, strands_in, AreInOrder}
 use Rattle.asked_cells.specs.Shards.{AreNumbered}
 use Rattle.window_answers.specs.Strands.{IsInOrder}
 use Rattle.window_answers.specs.Settlement.{HasSettled}
 use Rattle.session_meaning.specs.Session.{Setup, batch_of}
-use Rattle.worker_gate.specs.Ends.{AreInOrder, AreNew}
+use Rattle.worker_gate.specs.Ends.{AreNew}
 use Rattle.unit_answers.specs.Stores.{IsSized}
 use Rattle.unit_answers.specs.inner.Runs.{store_of, AreEnded, HasRun}
 use Rattle.session_meaning.proofs.Asked.{queries-signals, queries-within, queries-apart}

@@ -16,9 +16,9 @@ use Rattle.plan_machine.specs.Settle.{entries_in}
 use Rattle.demand_points.specs.Demands.{Demand}
 use Rattle.memo_shards.specs.KeptShards.{KeptShard, IsKnownShard}
 use Rattle.journal_meaning.specs.Counts.{booked_count}
-use Rattle.plan_core.specs.InTurn.{HasRun, IsUnused}
-use Rattle.plan_core.specs.Parts.{AreFree, shards_in}
-use Rattle.worker_gate.specs.Ends.{AreInOrder, AreNew, AreNumbered, AreCounted, AreEnds, AreFilled, booked_at, booked_in, made_by, task_of}
+use Rattle.plan_core.specs.InTurn.{HasRun, IsUnused, booked_by, made_by, task_of}
+use Rattle.plan_core.specs.Parts.{AreFree, shards_in, AreInOrder}
+use Rattle.worker_gate.specs.Ends.{AreNew, AreNumbered, AreCounted, AreEnds, AreFilled, booked_at}
 
 each-at : {X : Type 0} (P : X → Type 0) (xs : List X) (i : ℕ) (x : X) → All P xs → slice_get xs i ≡ Some x → P x
 each-at P xs i x all at = subst P (get_or_from_slice_get xs i x x at) (all i x (slice_get_within xs i x at))
@@ -92,15 +92,15 @@ bare-by (m ∷ ms) h = ap (λ (es : List Entry). es ++ entries_in (shards_in ms)
 pub bare : (ms : List KeptShard) → All (λ (m : KeptShard). m.shard.journal ≡ []) ms → entries_in (shards_in ms) ≡ []
 bare ms empty = bare-by ms (recursion_from_All (λ (m : KeptShard). m.shard.journal ≡ []) ms empty)
 
-booked-by : (ms : List KeptShard) → AllByRecursion (λ (m : KeptShard). m.shard.journal ≡ []) ms → sum_by booked_in ms ≡ 0
+booked-by : (ms : List KeptShard) → AllByRecursion (λ (m : KeptShard). m.shard.journal ≡ []) ms → sum_by booked_by ms ≡ 0
 booked-by [] h = refl
 booked-by (m ∷ ms) h =
     let k = booked-by ms h.1 in
-    let one : booked_in m ≡ 0 = ap booked_count h.0 in
-    let all = sum_by-cons booked_in m ms in
+    let one : booked_by m ≡ 0 = ap booked_count h.0 in
+    let all = sum_by-cons booked_by m ms in
     omega arith
 
-pub booked-none : (ms : List KeptShard) → All (λ (m : KeptShard). m.shard.journal ≡ []) ms → sum_by booked_in ms ≡ 0
+pub booked-none : (ms : List KeptShard) → All (λ (m : KeptShard). m.shard.journal ≡ []) ms → sum_by booked_by ms ≡ 0
 booked-none ms empty = booked-by ms (recursion_from_All (λ (m : KeptShard). m.shard.journal ≡ []) ms empty)
 
 -- each strand at its place has its count

@@ -7,7 +7,8 @@ use Rattle.demand_points.specs.Demands.{Demand}
 use Rattle.std.specs.Bool.{Decides}
 use Rattle.strand_meaning.specs.Strands.{next}
 use Rattle.strand_meaning.specs.declared.Next.TheVariants.{Done}
-use Rattle.worker_gate.specs.Ends.{task_of, HasEnded, HaveEnded, AreEnds, AreCounted, AreFilled, one_if_empty, empty_in}
+use Rattle.plan_core.specs.InTurn.{task_of}
+use Rattle.worker_gate.specs.Ends.{HasEnded, HaveEnded, AreEnds, AreCounted, AreFilled, one_if_empty, empty_in}
 
 pub read_set : {X : Type 0} (xs : List X) (n i : ℕ) (y z : X) → slice_get (set xs n y) i ≡ Some z → ((i ≡ n) × (y ≡ z)) ⊎ ((i ≢ n) × (slice_get xs i ≡ Some z))
 read_set [] n i y z e = absurd (cc)

@@ -1,19 +1,14 @@
 -- Strands that have ended, at their places.
 use Rattle.std.specs.Prelude.{◌≡◌, ◌≢◌, ℕ, ◌+◌, ◌<◌, true, false, List, [], length, sum_by, Option, Some, None, slice_get, slice_index}
-use Rattle.journal_meaning.specs.Counts.{booked_count}
 use Rattle.demand_points.specs.declared.strand.Task.{Task}
 use Rattle.demand_points.specs.Demands.{Demand}
 use Rattle.strand_meaning.specs.Strands.{next}
 use Rattle.strand_meaning.specs.declared.Next.TheVariants.{Done}
-use Rattle.memo_shards.specs.KeptShards.{KeptShard}
-
--- what a strand was started with
-abbrev pub task_of : Demand → Task
-task_of s = record { query = s.strand.query; from = s.from; to = s.to; budget = s.strand.budget }
+use Rattle.plan_core.specs.InTurn.{made_by, task_of}
 
 -- The strand has ended, with this number and this task; it is spent only at its full budget, and it has claimed and filled so often.
 abbrev pub IsEnd : Demand → ℕ → Task → ℕ → Type 0
-IsEnd s number task count = (next s.strand ≡ Done) × (s.number ≡ number) × (task_of s ≡ task) × (s.strand.spent ≡ true → s.strand.charged ≡ s.strand.budget) × (count ≡ s.strand.charged + s.strand.filled)
+IsEnd s number task count = (next s.strand ≡ Done) × (s.number ≡ number) × (task_of s ≡ task) × (s.strand.spent ≡ true → s.strand.charged ≡ s.strand.budget) × (count ≡ made_by s)
 
 -- each place is empty, or has such a strand
 abbrev pub AreEnds : List (Option Demand) → List Task → List ℕ → Type 0
@@ -29,7 +24,7 @@ HaveEnded places tasks = (i : ℕ) (s : Demand) (t : Task) → slice_get places 
 
 -- each strand at its place has claimed and filled as often as its count says
 abbrev pub AreCounted : List (Option Demand) → List ℕ → Type 0
-AreCounted places counts = (i : ℕ) (s : Demand) → slice_get places i ≡ Some (Some s) → slice_index counts i ≡ s.strand.charged + s.strand.filled
+AreCounted places counts = (i : ℕ) (s : Demand) → slice_get places i ≡ Some (Some s) → slice_index counts i ≡ made_by s
 
 abbrev pub one_if_empty : Option Demand → ℕ
 one_if_empty None = 1
@@ -42,10 +37,6 @@ empty_in places = sum_by one_if_empty places
 -- no place is empty
 abbrev pub AreFilled : List (Option Demand) → Type 0
 AreFilled places = (i : ℕ) → i < length places → slice_get places i ≢ Some None
-
--- each shard has the number of its place
-abbrev pub AreInOrder : List KeptShard → Type 0
-AreInOrder shards = (i : ℕ) (m : KeptShard) → slice_get shards i ≡ Some m → m.number ≡ i
 
 -- The strand has this number, has neither claimed nor filled a point, and was refused none.
 pub record IsNew (n : ℕ) (s : Demand) : Type 0 where
@@ -62,15 +53,7 @@ AreNew strands = (i : ℕ) (s : Demand) → slice_get strands i ≡ Some s → I
 abbrev pub AreNumbered : List Demand → Type 0
 AreNumbered strands = (i : ℕ) (s : Demand) → slice_get strands i ≡ Some s → s.number ≡ i
 
--- how many claims and fills a shard has recorded
-abbrev pub booked_in : KeptShard → ℕ
-booked_in m = booked_count m.shard.journal
-
--- how often a strand has claimed and filled a point
-abbrev pub made_by : Demand → ℕ
-made_by s = s.strand.charged + s.strand.filled
-
 -- the same of the strand at a place
 abbrev pub booked_at : Option Demand → ℕ
 booked_at None = 0
-booked_at (Some s) = s.strand.charged + s.strand.filled
+booked_at (Some s) = made_by s

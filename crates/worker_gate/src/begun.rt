@@ -1,7 +1,7 @@
 //! A batch whose strands have turns to make.
 
 ghost use Rattle.std.specs.Prelude.{◌≡◌, map, IfOk};
-ghost use Rattle.worker_gate.specs.Ends.{task_of};
+ghost use Rattle.plan_core.specs.InTurn.{task_of};
 
 use demand_points::{BatchName, Strand, Task};
 use memo_shards::Shard;

@@ -3,7 +3,8 @@
 ghost use Rattle.std.specs.Prelude.{◌≡◌, ◌+◌, true, false, Some, None, length, slice_get, IfErr};
 ghost use Rattle.strand_meaning.specs.Strands.{next};
 ghost use Rattle.strand_meaning.specs.declared.Next.TheVariants.{Done};
-ghost use Rattle.worker_gate.specs.Ends.{task_of, HaveEnded, AreFilled, empty_in};
+ghost use Rattle.plan_core.specs.InTurn.{task_of};
+ghost use Rattle.worker_gate.specs.Ends.{HaveEnded, AreFilled, empty_in};
 
 use demand_points::{BatchName, Strand, Task};
 

@@ -2,7 +2,8 @@
 
 ghost use Rattle.std.specs.Prelude.{◌≡◌, ◌^◌, ◌≤◌, true, Some, None, length, map, slice_get, sum, vec_len, IfOk, IfSome, MatchOption};
 ghost use Rattle.journal_meaning.specs.Counts.{is_booked};
-ghost use Rattle.worker_gate.specs.Ends.{AreCounted, booked_at, booked_in};
+ghost use Rattle.plan_core.specs.InTurn.{booked_by};
+ghost use Rattle.worker_gate.specs.Ends.{AreCounted, booked_at};
 
 use crate::board::booked_of;
 use demand_points::{BatchName, Strand};
@@ -21,7 +22,7 @@ fn is_booked(entry: &Entry) -> bool
 
 /// How many claims and fills the shard has recorded.
 pub fn booked_by<B: BatchName>(shard: &Shard<B>) -> usize
-    ensures { result ≡ booked_in shard.now }
+    ensures { result ≡ booked_by shard.now }
 {
     shard.journal().iter().filter(|e| is_booked(e)).count()
 }

@@ -2,11 +2,11 @@
 
 ghost use Rattle.std.specs.Prelude.{◌≡◌, ◌<◌, ◌≤◌, Bool, true, [], length, map, sum, sum_by, All, IfOk, IfSome, flat_map, vec_len};
 ghost use Rattle.journal_text.specs.Spelling.{entry_line};
-ghost use Rattle.plan_core.specs.InTurn.{AllChildrenCovered, AreStarted};
-ghost use Rattle.plan_core.specs.Parts.{shards_in, strands_in};
+ghost use Rattle.plan_core.specs.InTurn.{AllChildrenCovered, AreStarted, task_of, booked_by};
+ghost use Rattle.plan_core.specs.Parts.{shards_in, strands_in, AreInOrder};
 ghost use Rattle.plan_machine.specs.Settle.{entries_in};
 ghost use Rattle.asked_cells.specs.FillCounts.{HaveCounted};
-ghost use Rattle.worker_gate.specs.Ends.{AreInOrder, AreNew, task_of, booked_in, AreEnds, AreFilled};
+ghost use Rattle.worker_gate.specs.Ends.{AreNew, AreEnds, AreFilled};
 
 use crate::begun::{Begun, tasks_of};
 use crate::gate::Gate;
@@ -63,7 +63,7 @@ pub trait Crew {
         requires empty { All (λ m. m.shard.journal ≡ []) shards.items }
         requires strands { vec_len strands ≤ 256 }
         requires new { AreNew strands.items }
-        ensures counted { IfOk result (λ ran. sum ran.counts ≡ sum_by booked_in ran.shards) }
+        ensures counted { IfOk result (λ ran. sum ran.counts ≡ sum_by booked_by ran.shards) }
         ensures ended { IfOk result (λ ran. AreEnds ran.strands (map task_of strands.items)
             ran.counts) }
         ensures filled { is_open self.now ≡ true → IfOk result (λ ran. AreFilled ran.strands) }
@@ -82,7 +82,7 @@ pub trait Crew {
         }
         let mut shards = shards;
         let mut strands = strands;
-        let most = turns_before(self.gate(), self.workers());
+        let most = turns_before(self.gate(), self.workers(), strands.len());
         match make_turns(&mut strands, &mut shards, design, Some(most))? {
             Some(unrefused) => end_in_turn(alloc, shards, strands, unrefused),
             None => {
@@ -111,7 +111,9 @@ pub trait Crew {
     }
 }
 
-/// How many turns a batch makes before the workers are started.
-fn turns_before<G: Gate>(gate: &G, workers: u32) -> u64 {
-    gate.turns_before() as u64 * workers as u64
+/// How many turns a batch of so many strands makes before the workers are started. No more of these start than there are strands.
+fn turns_before<G: Gate>(gate: &G, workers: u32, strands: usize) -> u64
+    requires { strands ≤ 256 }
+{
+    gate.turns_before() as u64 * workers.min(strands as u32) as u64
 }

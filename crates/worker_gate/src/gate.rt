@@ -2,8 +2,9 @@
 
 ghost use Rattle.std.specs.Prelude.{◌≡◌, Bool, true};
 
-/// How many turns, for each worker, a batch makes before the workers are started, where a gate says nothing else.
-const TURNS_BEFORE: u32 = 2_048;
+/// How many turns a batch makes, for each worker that it can start, before the workers are started, where a gate says nothing else. One
+/// thread makes so many in some five milliseconds.
+const TURNS_BEFORE: u32 = 16_384;
 
 /// What a gate answers a worker before a turn.
 #[derive(Clone, Copy, Debug, PartialEq, Eq)]
@@ -24,8 +25,8 @@ pub trait Gate: Sync {
     /// Called while the shard's lock is held, before its step.
     fn within(&self, worker: u32, shard: u32);
 
-    /// How many turns of a batch, for each worker, are made before the workers are started. To start threads, and to look at what
-    /// they left, takes as long as some thousand turns.
+    /// How many turns of a batch, for each worker that it can start, are made before the workers are started. To start threads, and to
+    /// look at what they left, takes as long as some thousand turns, and with several workers a turn takes longer.
     fn turns_before(&self) -> u32 {
         TURNS_BEFORE
     }

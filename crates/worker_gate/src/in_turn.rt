@@ -2,10 +2,10 @@
 
 ghost use Rattle.std.specs.Prelude.{◌≡◌, ◌<◌, true, Some, None, [], length, map, sum, sum_by, vec_len, All, IfOk, IsSome};
 ghost use Rattle.memo_shards.specs.KeptShards.{IsKnownShard};
-ghost use Rattle.plan_core.specs.InTurn.{AllChildrenCovered, HasRun};
-ghost use Rattle.plan_core.specs.Parts.{shards_in};
+ghost use Rattle.plan_core.specs.InTurn.{AllChildrenCovered, HasRun, booked_by, made_by, task_of};
+ghost use Rattle.plan_core.specs.Parts.{shards_in, AreInOrder};
 ghost use Rattle.plan_machine.specs.Settle.{entries_in};
-ghost use Rattle.worker_gate.specs.Ends.{AreEnds, AreFilled, AreInOrder, AreNew, AreNumbered, booked_in, made_by, task_of};
+ghost use Rattle.worker_gate.specs.Ends.{AreEnds, AreFilled, AreNew, AreNumbered};
 
 use crate::board::booked_of;
 use crate::ran::{CountList, EndedList, Ran, ShardList};
@@ -34,7 +34,7 @@ pub fn make_turns<B: BatchName>(
     ensures tasks { map task_of strands.new ≡ map task_of strands.old }
     ensures count { length shards.new ≡ length shards.old }
     ensures order { AreInOrder shards.new }
-    ensures counted { sum_by made_by strands.new ≡ sum_by booked_in shards.new }
+    ensures counted { sum_by made_by strands.new ≡ sum_by booked_by shards.new }
     ensures whole { most ≡ None → IfOk result (λ unrefused. IsSome unrefused) }
     ensures ended { IfOk result (λ unrefused. IsSome unrefused → All HasRun strands.new) }
     ensures heard { IfOk result (λ unrefused. unrefused ≡ Some true
@@ -45,7 +45,10 @@ pub fn make_turns<B: BatchName>(
 }
 
 // How often each strand has claimed and filled a point.
-fn counts_of<B: BatchName>(alloc: Global, strands: &[Strand<B>]) -> Result<Vec<u64>, OutOfMemory>
+fn booked_of_each<B: BatchName>(
+    alloc: Global,
+    strands: &[Strand<B>],
+) -> Result<Vec<u64>, OutOfMemory>
     ensures { IfOk result (λ v. v.items ≡ map made_by strands.now) }
 {
     Ok(strands.iter().map(|s| booked_of(s)).collect(alloc)?)
@@ -70,8 +73,8 @@ pub fn end_in_turn<B: BatchName>(
 ) -> Result<Ran<B>, OutOfMemory>
     requires numbers { AreNumbered strands.items }
     requires ended { All HasRun strands.items }
-    requires counted { sum_by made_by strands.items ≡ sum_by booked_in shards.items }
-    ensures counted { IfOk result (λ r. sum r.counts ≡ sum_by booked_in r.shards) }
+    requires counted { sum_by made_by strands.items ≡ sum_by booked_by shards.items }
+    ensures counted { IfOk result (λ r. sum r.counts ≡ sum_by booked_by r.shards) }
     ensures ended { IfOk result (λ r. AreEnds r.strands (map task_of strands.items) r.counts) }
     ensures filled { IfOk result (λ r. AreFilled r.strands) }
     ensures places { IfOk result (λ r. length r.strands ≡ vec_len strands) }
@@ -80,7 +83,7 @@ pub fn end_in_turn<B: BatchName>(
     ensures heard { IfOk result (λ r. r.heard ≡ unrefused) }
     ensures said { IfOk result (λ r. r.said ≡ None) }
 {
-    let counts = counts_of(alloc, strands.as_slice())?;
+    let counts = booked_of_each(alloc, strands.as_slice())?;
     let places = places_of(alloc, strands)?;
     Ok(Ran {
         shards: ShardList::new(shards),
@@ -104,7 +107,7 @@ pub fn run_alone<B: BatchName>(
     requires order { AreInOrder shards.items }
     requires empty { All (λ m. m.shard.journal ≡ []) shards.items }
     requires new { AreNew strands.items }
-    ensures counted { IfOk result (λ r. sum r.counts ≡ sum_by booked_in r.shards) }
+    ensures counted { IfOk result (λ r. sum r.counts ≡ sum_by booked_by r.shards) }
     ensures ended { IfOk result (λ r. AreEnds r.strands (map task_of strands.items) r.counts) }
     ensures filled { IfOk result (λ r. AreFilled r.strands) }
     ensures places { IfOk result (λ r. length r.strands ≡ vec_len strands) }

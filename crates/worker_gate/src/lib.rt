@@ -1,8 +1,8 @@
 //! Workers that serve the strands of one batch together.
 //!
 //! [`Crew::run`] has 1 to 64 workers, and no more than there are strands. The first turns of a batch are made on the caller's thread, one
-//! strand after another in the order of their numbers, each until it has ended: 2,048 turns for each worker, which take as long as to
-//! start the workers and to look at what they left. So a small batch starts none, and its journal is that of one worker. Where there is
+//! strand after another in the order of their numbers, each until it has ended: 16,384 turns for each worker that can start, some five
+//! milliseconds. So a batch that is done in some tens of milliseconds starts none, and its journal is that of one worker. Where there is
 //! one worker or one strand, all turns are made so. No locks are needed. If no strand was refused a point, [`Ran::heard`] is true then:
 //! each point that was evaluated has heard its children.
 //!

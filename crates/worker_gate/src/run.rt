@@ -1,12 +1,12 @@
 //! Runs the workers, and takes out what they leave.
 
 ghost use Rattle.std.specs.Prelude.{◌≡◌, ◌+◌, ◌^◌, ◌<◌, ◌≤◌, true, false, length, sum, sum_by, vec_len, All, IfOk, IfSome};
-ghost use Rattle.plan_core.specs.InTurn.{AllChildrenCovered};
-ghost use Rattle.plan_core.specs.Parts.{shards_in};
+ghost use Rattle.plan_core.specs.InTurn.{AllChildrenCovered, booked_by};
+ghost use Rattle.plan_core.specs.Parts.{shards_in, AreInOrder};
 ghost use Rattle.plan_machine.specs.Settle.{entries_in};
 ghost use Rattle.ready_queue.specs.Queue.{IsPassOf, IsFreshPassOf};
 ghost use Rattle.asked_cells.specs.FillCounts.{HaveCounted};
-ghost use Rattle.worker_gate.specs.Ends.{AreEnds, AreFilled, AreInOrder, booked_in};
+ghost use Rattle.worker_gate.specs.Ends.{AreEnds, AreFilled};
 
 use crate::begun::Begun;
 use crate::board::Board;
@@ -100,7 +100,7 @@ fn take_all<B: BatchName, R: Wait>(
     requires few { length slots.now < 2 ^ 32 }
     ensures count { IfOk result (λ r. vec_len r.0 ≡ length slots.now) }
     ensures numbers { IfOk result (λ r. AreInOrder r.0.items) }
-    ensures amount { IfOk result (λ r. r.1 ≡ sum_by booked_in r.0.items) }
+    ensures amount { IfOk result (λ r. r.1 ≡ sum_by booked_by r.0.items) }
 {
     let mut shards = Vec::with_capacity(alloc, slots.len())?;
     let mut total = 0u64;
@@ -216,7 +216,7 @@ pub fn run_workers<B: BatchName + Send + Sync, G: Gate, R: Threads + Wait + Sync
     requires shards { (0 < vec_len begun.shards) × (vec_len begun.shards ≤ 64) }
     requires strands { vec_len begun.tasks ≤ 256 }
     requires workers { (0 < workers) × (workers ≤ 64) }
-    ensures counted { IfOk result (λ r. sum r.counts ≡ sum_by booked_in r.shards) }
+    ensures counted { IfOk result (λ r. sum r.counts ≡ sum_by booked_by r.shards) }
     ensures ended { IfOk result (λ r. AreEnds r.strands begun.tasks.items r.counts) }
     ensures filled { G.is_open gate.now ≡ true → IfOk result (λ r. AreFilled r.strands) }
     ensures places { IfOk result (λ r. length r.strands ≡ vec_len begun.tasks) }

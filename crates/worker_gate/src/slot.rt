@@ -11,7 +11,7 @@ ghost use Rattle.memo_shards.specs.Asks.{OfPark};
 ghost use Rattle.memo_shards.specs.Steps.{MayStep};
 ghost use Rattle.memo_shards.specs.Grants.{IsGranted, IsRequest, OfGrant, step_of};
 ghost use Rattle.memo_shards.specs.declared.request.Request.TheVariants.{Ask};
-ghost use Rattle.worker_gate.specs.Ends.{booked_in};
+ghost use Rattle.plan_core.specs.InTurn.{booked_by};
 
 use demand_points::{BatchName, Strand};
 use memo_shards::{Grant, Request, Shard};
@@ -23,7 +23,7 @@ use valid_intervals::Point;
 pub struct CountedShard<B: BatchName> {
     pub booked: u64,
     pub shard: Shard<B>,
-    ghost amount: { booked ≡ booked_in shard },
+    ghost amount: { booked ≡ booked_by shard },
 }
 
 impl<B: BatchName> CountedShard<B> {

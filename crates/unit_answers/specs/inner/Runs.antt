@@ -15,7 +15,7 @@ use Rattle.reply_lines.specs.declared.reply.Outcome.{Outcome}
 use Rattle.memo_shards.specs.KeptShards.{KeptShard}
 use Rattle.window_answers.specs.Phases.{AreOutcomes, refused_of}
 use Rattle.session_meaning.specs.Session.{Setup}
-use Rattle.worker_gate.specs.Ends.{AreInOrder}
+use Rattle.plan_core.specs.Parts.{AreInOrder}
 use Rattle.unit_answers.specs.Stores.{cells_of}
 
 -- the batch of these queries; with a site, of the circuit in which the site is forced

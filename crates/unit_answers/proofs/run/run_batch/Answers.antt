@@ -2,14 +2,13 @@ use Rattle.std.proofs.Common.{◌≡◌, ℕ, List, flat_map, sum, sum_by, sym, 
 use Rattle.valid_intervals.specs.declared.SignalCell.{SignalCell}
 use Rattle.batch_meaning.specs.Batches.{Batch}
 use Rattle.batch_meaning.specs.Pieces.{pieces}
-use Rattle.worker_gate.specs.Ends.{AreInOrder, booked_in}
 use Rattle.unit_answers.specs.Stores.{cells_of}
 use Rattle.unit_answers.specs.inner.Runs.{HasRun}
 use Rattle.unit_answers.proofs.Crewing.{has-crewed}
 use Rattle.plan_machine.specs.Settle.{entries_in}
 use Rattle.memo_shards.specs.KeptShards.{KeptShard}
-use Rattle.plan_core.specs.InTurn.{AllChildrenCovered}
-use Rattle.plan_core.specs.Parts.{shards_in, strands_in}
+use Rattle.plan_core.specs.InTurn.{AllChildrenCovered, booked_by}
+use Rattle.plan_core.specs.Parts.{shards_in, strands_in, AreInOrder}
 use Rattle.unit_answers.proofs.Running.{strands-new, strands-started, order-numbers, settled-free, has-run}
 use Rattle.unit_answers.proofs.run.run_batch.Goals as goal
 
@@ -37,7 +36,7 @@ returns-clause-crewed g c =
     let ran = c.in_ok-ran.ran in
     let e = c.in_ok-ran.ensures in
     has-crewed b.circuit (flat_map pieces c.args.queries.now) c.in_ok-strands.strands.items c.in_ok-strands.ensures.strands ran.strands ran.counts e.ended b g.B.BatchName.opening handed c.in_ok-outcomes.field-0.shards.items c.in_ok-outcomes.field-0.outcomes.items c.in_ok-lists.lists.items
-    (g.C.Crew.is_open c.args.crew.now) c.in_ok-outcomes.ensures c.in_ok-lists.ensures.lists_are (subst (λ ms. sum ran.counts ≡ sum_by booked_in ms) (sym c.into_vec-handed.ensures) e.counted) (e.places ∙ c.in_ok-strands.strands.ok.0) (e.counts ∙ c.in_ok-strands.strands.ok.0) e.filled
+    (g.C.Crew.is_open c.args.crew.now) c.in_ok-outcomes.ensures c.in_ok-lists.ensures.lists_are (subst (λ ms. sum ran.counts ≡ sum_by booked_by ms) (sym c.into_vec-handed.ensures) e.counted) (e.places ∙ c.in_ok-strands.strands.ok.0) (e.counts ∙ c.in_ok-strands.strands.ok.0) e.filled
 
 pub settle-requires-clause-numbers : goal.settle-requires-clause-numbers
 settle-requires-clause-numbers g c = order-numbers c.into_vec-handed.result.items (subst AreInOrder (sym c.into_vec-handed.ensures) c.in_ok-ran.ensures.order)

@@ -1,6 +1,7 @@
 use Rattle.std.proofs.Common.{◌≡◌, ◌∙◌, ℕ, List, Option, Some, map, subst, sym, ap}
 use Rattle.demand_points.specs.Demands.{Demand}
-use Rattle.worker_gate.specs.Ends.{AreEnds, AreFilled, made_by, task_of}
+use Rattle.plan_core.specs.InTurn.{made_by, task_of}
+use Rattle.worker_gate.specs.Ends.{AreEnds, AreFilled}
 use Rattle.worker_gate.proofs.InTurn.{run-ends, all-filled}
 use Rattle.worker_gate.proofs.in_turn.end_in_turn.Goals as goal
 

@@ -3,9 +3,9 @@ use Rattle.std.proofs.lemmas.List.{take_at}
 use Rattle.plan_machine.specs.Settle.{entries_in}
 use Rattle.demand_points.specs.declared.strand.Task.{Task}
 use Rattle.memo_shards.specs.KeptShards.{KeptShard}
-use Rattle.plan_core.specs.InTurn.{AllChildrenCovered}
-use Rattle.plan_core.specs.Parts.{shards_in}
-use Rattle.worker_gate.specs.Ends.{AreEnds, AreInOrder, task_of}
+use Rattle.plan_core.specs.InTurn.{AllChildrenCovered, task_of}
+use Rattle.plan_core.specs.Parts.{shards_in, AreInOrder}
+use Rattle.worker_gate.specs.Ends.{AreEnds}
 use Rattle.worker_gate.proofs.InTurn.{shards-written, heard-written}
 use Rattle.worker_gate.proofs.in_turn.run_alone.Goals as goal
 

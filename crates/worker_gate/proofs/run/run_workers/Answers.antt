@@ -1,7 +1,8 @@
 use Rattle.std.proofs.Common.{◌≡◌, ◌∙◌, subst, sym, ℕ, List, Option}
 use Rattle.demand_points.specs.declared.strand.Task.{Task}
 use Rattle.demand_points.specs.Demands.{Demand}
-use Rattle.worker_gate.specs.Ends.{AreCounted, AreEnds, AreInOrder}
+use Rattle.plan_core.specs.Parts.{AreInOrder}
+use Rattle.worker_gate.specs.Ends.{AreCounted, AreEnds}
 use Rattle.memo_shards.specs.KeptShards.{KeptShard}
 use Rattle.plan_core.specs.InTurn.{AllChildrenCovered}
 use Rattle.asked_cells.specs.FillCounts.{HaveCounted}

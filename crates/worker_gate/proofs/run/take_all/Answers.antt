@@ -1,6 +1,6 @@
 use Rattle.std.proofs.Common.{rules, ◌≡◌, arith, length}
 use Rattle.std.proofs.lemmas.List.Sums.{sum_by_push}
-use Rattle.worker_gate.specs.Ends.{booked_in}
+use Rattle.plan_core.specs.InTurn.{booked_by}
 use Rattle.worker_gate.proofs.Places.{places_more}
 use Rattle.worker_gate.proofs.run.take_all.Goals as goal
 
@@ -9,7 +9,7 @@ loop-i-preserved g c =
     let h = c.take_shard-booked.result in
     let old = c.loop-i.invariant in
     let items = c.in_ok-push.ensures.items in
-    let e = sum_by_push booked_in c.loop-i.shards.items h.shard in
+    let e = sum_by_push booked_by c.loop-i.shards.items h.shard in
     record {
       count = search rules;
       amount = rw items (omega (arith, e, old.amount, h.amount, c.sum_of_both-total.ensures));
