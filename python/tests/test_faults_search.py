@@ -94,6 +94,19 @@ def test_what_has_not_settled_is_said_and_asked_again(tools, write) -> None:
     assert run.stdout.decode().splitlines()[:2] == ["5: y /1", "8: y /0"]
 
 
+def test_a_clock_that_from_sdf_shifted_is_the_one_that_it_comes_of(tools, write) -> None:
+    """q takes a at 10, 20 and 30, and shows it 4 later; r takes 3 after these edges what q had before them. So r is 0 at 19, 1 at 29, where a
+    was 1 at 10, and 0 at 39."""
+    files = (write("n", "INPUT(a)\nOUTPUT(r)\nq = DFF(a)\nr = DFF(q)\n"),
+             write("t", "version 2\nclock clk 10 10\nclock clk+3 13 10\nclocked q clk\nclocked r clk+3\ndelay q 4\ninit q 0\ninit r 0\n"),
+             write("s", "horizon 40\nset a 0 1\nset a 15 0\n"))
+    run = faults(tools, *files, "--times", "19:39:10")
+    assert (run.returncode, run.stderr) == (0, b"")
+    lines = run.stdout.decode().splitlines()
+    assert [sorted(line.replace(":", ",").split(", ")) for line in lines[:3]] == [["19", "q /1", "r /1"], ["29", "a /0", "q /0", "r /0"], ["39", "a /1"]]
+    assert "confirmed by the program: 6 of 6 that are shown" in lines
+
+
 def test_what_simulation_does_not_show_is_asked_of_the_program(tools, write, tmp_path) -> None:
     # settled, y is never 1; but at each change of a it is, for two units, and then the tester looks
     netlist = "INPUT(a)\nOUTPUT(y)\nb = NOT(a)\nc = BUFF(b)\ny = AND(a, c)\n"

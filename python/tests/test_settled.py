@@ -32,7 +32,35 @@ def test_paths_and_times(write, capsys) -> None:
 
 def test_a_path_that_is_too_long(write, capsys) -> None:
     status, out, _ = settled(write, capsys, timing=TIMING.replace("delay q 3", "delay q 6"))
-    assert (status, out.splitlines()[1]) == (1, "clock to clock slow: path 6, time 5, TOO LATE")
+    assert (status, out.splitlines()[1]) == (1, "clock to clock slow: path 6, time 5, TOO LATE at r")
+
+
+SHIFTED = "version 2\nclock clk 10 20\nclock clk+3 13 20\nclocked q clk\nclocked r clk+3\ndefault 2\ndelay q 4\n"
+
+
+def test_a_clock_that_from_sdf_shifted_is_the_one_that_it_comes_of(write, capsys) -> None:
+    """q shows an edge of clk 4 after it, and r takes it 3 after the next: the path is 4 - 3. r shows the edge 3 + 2 after it, and m 2 later.
+    Without names it is the same."""
+    expected = "inputs to clock clk: path 4, time 7\nclock clk to clock clk: path 7, time 20\nlongest path 7\n"
+    assert settled(write, capsys, timing=SHIFTED) == (0, expected, "")
+    unnamed = SHIFTED.replace("clock clk 10", "clock 10").replace("clocked q clk\n", "").replace("clk+3", "clock+3")
+    assert settled(write, capsys, timing=unnamed) == (0, expected.replace(" clk", ""), "")
+
+
+def test_a_flip_flop_that_takes_what_the_same_edge_changes(write, capsys) -> None:
+    """q shows an edge at the very time at which r takes its pin, so r takes what q has from this edge on. a changes at 31, and p takes it 3
+    after the edge at 30."""
+    status, out, _ = settled(write, capsys, timing=SHIFTED.replace("delay q 4", "delay q 3"))
+    assert (status, out.splitlines()[1]) == (1, "clock clk to clock clk: path 7, time 20, TOO EARLY: the shortest path is 0")
+    status, out, _ = settled(write, capsys, "INPUT(a)\np = DFF(a)\n", "version 2\nclock c 10 20\nclock c+3 13 20\nclocked p c+3\n",
+                             "horizon 100\nset a 0 0\nset a 31 1\n")
+    assert (status, out.splitlines()[0]) == (1, "inputs to clock c: path -3, time 19, TOO EARLY: the shortest path is -3")
+
+
+def test_a_clock_with_such_a_name_and_other_edges_is_its_own(write, capsys) -> None:
+    """From 10, where q has an edge, to 14."""
+    status, out, _ = settled(write, capsys, timing=SHIFTED.replace("clk+3 13", "clk+3 14"))
+    assert (status, out.splitlines()[1]) == (0, "clock clk to clock clk+3: path 4, time 4")
 
 
 def test_an_input_that_changes_at_an_edge(write, capsys) -> None:

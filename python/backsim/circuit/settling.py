@@ -2,7 +2,8 @@
 from __future__ import annotations
 
 from bisect import bisect_left, bisect_right
-from collections.abc import Iterable, Iterator, Mapping, Sequence
+from collections.abc import Callable, Iterable, Mapping, Sequence
+from operator import itemgetter
 
 from ..formats.netlist import Gate, Netlist, in_order
 from ..formats.stimulus import Stimulus
@@ -14,14 +15,19 @@ INPUTS = "inputs"
 
 @dataclass(frozen=True, slots=True)
 class Pair:
-    """The paths from a source, the inputs or a clock's flip-flops, to the pins of a clock's flip-flops: the longest, and the shortest
-    time from a change of the source to the next edge. `is_late` says that the path is longer than the time, or that an input that a
-    flip-flop's gates look at changes at an edge itself (the time is 0 then)."""
+    """The paths from a source, the inputs or a clock's flip-flops, to the pins of a clock's flip-flops: the longest, with the flip-flop
+    to which it leads, and the shortest; and the shortest time from a change of the source to the next edge. A path counts from and to the
+    edges of the clocks; where flip-flops take their pins later or earlier than these, it is shorter or longer by so much. `is_late` says
+    that the longest path is longer than the time, or that an input that a flip-flop's gates look at changes at an edge itself (the time is
+    0 then). `is_early` says that by the shortest path a flip-flop takes at an edge what changes at that edge or after it."""
 
     source: str
     clock: str
     path: int
+    flop: str
+    shortest: int
     time: int
+    is_early: bool
 
     @property
     def is_late(self) -> bool:
@@ -39,14 +45,15 @@ class Settling:
     has_changes: bool
 
 
-def arrivals(timing: Timing, gates: Iterable[Gate], sources: Mapping[str, int]) -> dict[str, int]:
-    """The longest time from a change at the sources to each signal that they reach; `gates` come after those that they read."""
-    latest = dict(sources)
+def arrivals(timing: Timing, gates: Iterable[Gate], sources: Mapping[str, int], chosen: Callable[[Iterable[int]], int] = max) -> dict[str, int]:
+    """The longest time from a change at the sources to each signal that they reach, or with `min` the shortest; `gates` come after those
+    that they read."""
+    found = dict(sources)
     for gate in gates:
-        seen = [latest[pin] + timing.delay(gate, place) for place, pin in enumerate(gate.pins) if pin in latest]
+        seen = [found[pin] + timing.delay(gate, place) for place, pin in enumerate(gate.pins) if pin in found]
         if seen:
-            latest[gate.name] = max(seen)
-    return latest
+            found[gate.name] = chosen(seen)
+    return found
 
 
 def settle(netlist: Netlist, timing: Timing, stimulus: Stimulus) -> Settling:
@@ -54,31 +61,38 @@ def settle(netlist: Netlist, timing: Timing, stimulus: Stimulus) -> Settling:
     gates = tuple(in_order(netlist))
     flops: dict[str, list[Gate]] = {}
     edges: dict[str, range] = {}
+    shifts: dict[str, int] = {}
     for flop in netlist.flops():
-        clock = timing.clock_of(flop.name)
-        if clock is not None:
-            name = f"clock {timing.clocked.get(flop.name, '')}".strip()
+        taken = timing.edges_of(flop.name)
+        if taken is not None:
+            name = f"clock {taken.name}".strip()
             flops.setdefault(name, []).append(flop)
-            edges[name] = clock.edges(stimulus.horizon)
+            edges[name] = taken.clock.edges(stimulus.horizon)
+            shifts[flop.name] = taken.shift
     read = {pin for gate in netlist.gates.values() for pin in gate.pins}
     changes = sorted({time for name in read & stimulus.settings.keys() for time, _ in stimulus.changes(name) if time > 0})
     starts: dict[str, dict[str, int]] = {INPUTS: dict.fromkeys(netlist.inputs, 0)}
-    starts |= {name: {flop.name: timing.delay(flop) for flop in own} for name, own in flops.items()}
+    starts |= {name: {flop.name: timing.delay(flop) + shifts[flop.name] for flop in own} for name, own in flops.items()}
     pairs: list[Pair] = []
     longest = 0
     for source, sources in starts.items():
         latest = arrivals(timing, gates, sources)
         longest = max(longest, *latest.values(), 0)
-        pairs += _pairs(source, latest, changes if source == INPUTS else edges[source], flops, edges)
+        earliest = arrivals(timing, gates, sources, min) if any(shifts.values()) else latest
+        times = changes if source == INPUTS else edges[source]
+        for clock, own in flops.items():
+            paths = [(latest[pin] - shifts[flop.name], flop.name) for flop in own if (pin := flop.pins[0]) in latest]
+            gaps, waits = _gaps(source, times, edges[clock])
+            if paths and gaps:
+                shortest = min(earliest[pin] - shifts[flop.name] for flop in own if (pin := flop.pins[0]) in earliest)
+                path, name = max(paths, key=itemgetter(0))
+                pairs.append(Pair(source, clock, path, name, shortest, min(gaps), bool(waits) and shortest + min(waits) <= 0))
     return Settling(tuple(pairs), longest, bool(changes))
 
 
-def _pairs(source: str, latest: Mapping[str, int], times: Sequence[int], flops: Mapping[str, Sequence[Gate]],
-           edges: Mapping[str, range]) -> Iterator[Pair]:
+def _gaps(source: str, times: Sequence[int], edges: Iterable[int]) -> tuple[list[int], list[int]]:
+    """The times from a change of the source to each edge after it, and from each edge to the change that comes then."""
     # a flip-flop that changes at an edge shows it later
     last = bisect_right if source == INPUTS else bisect_left
-    for clock, own in flops.items():
-        paths = [latest[flop.pins[0]] for flop in own if flop.pins[0] in latest]
-        gaps = [edge - times[last(times, edge) - 1] for edge in edges[clock] if last(times, edge) > 0]
-        if paths and gaps:
-            yield Pair(source, clock, max(paths), min(gaps))
+    places = [(edge, last(times, edge)) for edge in edges]
+    return [edge - times[place - 1] for edge, place in places if place], [times[place] - edge for edge, place in places if place < len(times)]

@@ -36,8 +36,8 @@ def moments(network: Network, circuit: Circuit, times: Sequence[int], start: int
             if start <= time <= last:
                 found.setdefault(time, Moment()).settings.append((network.number[name], value))
     for place, (number, _) in enumerate(network.flops):
-        clock = circuit.timing.clock_of(network.names[number])
-        for time in _edges(clock, start, last) if clock else ():
+        taken = circuit.timing.edges_of(network.names[number])
+        for time in _edges(taken.clock, start, last) if taken else ():
             found.setdefault(time, Moment()).edges.append(place)
     return [found[time] for time in sorted(found)]
 
@@ -84,8 +84,8 @@ def _bits(seen: Iterable[str], value: str) -> int:
 def warnings(circuit: Circuit, times: Sequence[int]) -> list[str]:
     """What may make the program's answers differ from a simulation of settled values, a line each: outputs that have not settled when
     the tester looks, and flip-flops that take what has not. ValueError, with the name of a signal on it, where gates make a cycle."""
-    late = [pair for pair in settle(circuit.netlist, circuit.timing, circuit.stimulus).pairs if pair.is_late]
-    return [*_late_looks(circuit, times), *_late_edges(late)]
+    pairs = settle(circuit.netlist, circuit.timing, circuit.stimulus).pairs
+    return [*_late_looks(circuit, times), *_wrong_edges(pairs)]
 
 
 def _late_looks(circuit: Circuit, times: Sequence[int]) -> Iterator[str]:
@@ -114,15 +114,21 @@ def _sources(circuit: Circuit) -> Iterator[tuple[dict[str, int], Sequence[int]]]
     yield dict.fromkeys(inputs, 0), sorted({time for name in inputs for time, _ in circuit.stimulus.changes(name)})
     flops: dict[Clock, dict[str, int]] = {}
     for flop in circuit.netlist.flops():
-        clock = circuit.timing.clock_of(flop.name)
-        if clock is not None:
-            flops.setdefault(clock, {})[flop.name] = circuit.timing.delay(flop)
-    for clock, own in flops.items():
-        yield own, clock.edges(circuit.stimulus.horizon)
+        taken = circuit.timing.edges_of(flop.name)
+        if taken is not None:
+            flops.setdefault(taken.clock, {})[flop.name] = circuit.timing.delay(flop) + taken.shift
+    for clock, sources in flops.items():
+        yield sources, clock.edges(circuit.stimulus.horizon)
 
 
-def _late_edges(late: Sequence[Pair]) -> Iterator[str]:
+def _wrong_edges(pairs: Sequence[Pair]) -> Iterator[str]:
+    late = [pair for pair in pairs if pair.is_late]
     if late:
         worst = max(late, key=lambda pair: pair.path - pair.time)
         yield (f"flip-flops may take what has not settled: from {worst.source} to {worst.clock} the longest path is {worst.path}, the "
                f"shortest time {worst.time} (`backsim-tools settled` says it of all clocks)")
+    early = [pair for pair in pairs if pair.is_early]
+    if early:
+        worst = min(early, key=lambda pair: pair.shortest)
+        yield (f"flip-flops may take at an edge what changes at that edge or after it: from {worst.source} to {worst.clock} the shortest path "
+               f"is {worst.shortest} (`backsim-tools settled` says it of all clocks)")

@@ -1,6 +1,7 @@
 """The timing file: delays, clocks and initial values (docs/use/FORMATS.md, The timing file)."""
 from __future__ import annotations
 
+import re
 from dataclasses import field
 from typing import Any, TextIO, Union
 
@@ -15,6 +16,8 @@ from .units import Unit, comment_of, unit_in
 
 INITIALS = ("0", "1", "x")
 Key = tuple[Union[str, int], ...]
+# the name of a clock that from-sdf makes of another
+_SHIFTED = re.compile(r"(.+)([+-][0-9]{1,7})")
 
 
 @dataclass(frozen=True, slots=True)
@@ -27,6 +30,15 @@ class Clock:
     def edges(self, horizon: int) -> range:
         """The edges up to the horizon."""
         return range(self.first, horizon + 1, self.period)
+
+
+@dataclass(frozen=True, slots=True)
+class Edges:
+    """When a flip-flop takes its pin: `shift` after the edges of the clock, whose name is empty where it has none."""
+
+    name: str
+    clock: Clock
+    shift: int
 
 
 @dataclass(slots=True)
@@ -55,6 +67,21 @@ class Timing:
         """The clock of the flip-flop, or None where it has none and keeps its initial value."""
         name = self.clocked.get(flop)
         return self.clock if name is None else self.clocks[name]
+
+    def edges_of(self, flop: str) -> Edges | None:
+        """When the flip-flop takes its pin, None where it has no clock. A clock `clk+3` with the edges of `clk`, 3 later, is that clock
+        here: from-sdf makes such of what gates and wires before a pin take."""
+        own = self.clock_of(flop)
+        if own is None:
+            return None
+        name = self.clocked.get(flop, "")
+        parts = _SHIFTED.fullmatch(name)
+        if parts:
+            shift = int(parts[2])
+            for origin, clock in ((parts[1], self.clocks.get(parts[1])), ("", self.clock if parts[1] == "clock" else None)):
+                if clock is not None and (clock.first + shift, clock.period) == (own.first, own.period):
+                    return Edges(origin, clock, shift)
+        return Edges(name, own, 0)
 
     def initial(self, flop: str) -> str:
         """The initial value of the flip-flop: `0`, `1` or `x`."""
