@@ -18,21 +18,21 @@ def write_whole(path: type_of_path, data: bytes) -> None:
     """Writes a file whole. What is no regular file, as a pipe or /dev/null, is written to where it stands. FormatError where it can't be
     written; the file is as it was then."""
     try:
-        # a link stays one: what it leads to is renamed over
-        place = os.path.realpath(path)
-        mode = _mode_of(place)
+        mode = _mode_of(path)
         if mode is not None and not stat.S_ISREG(mode):
-            with open(place, "wb") as stream:
+            # by its own name: of /dev/stdout that is a pipe the link leads to no name
+            with open(path, "wb") as stream:
                 stream.write(data)
         else:
-            _replace(place, data, mode)
+            # a link stays one: what it leads to is renamed over
+            _replace(os.path.realpath(path), data, mode)
     except (OSError, ValueError) as error:
         raise FormatError(path, None, f"it can't be written: {reason_of(error)}") from None
 
 
-def _mode_of(place: str) -> int | None:
+def _mode_of(path: type_of_path) -> int | None:
     try:
-        return os.stat(place).st_mode
+        return os.stat(path).st_mode
     except FileNotFoundError:
         return None
 
