@@ -41,6 +41,12 @@ def test_buses_patterns_and_budgets(example, program, tools) -> None:
         f"standard input:4: no signal is of the pattern registers[[12]*[0]\n".encode()
 
 
+def test_a_line_that_is_no_text_is_told(example, program, tools) -> None:
+    done = tools("ask", *example("s27"), "--program", program, input=b"\xff 3\nG17 4\n", env={"PYTHONIOENCODING": "utf-8:strict"})
+    assert (done.returncode, done.stdout) == (2, b"G17 = x\n")
+    assert done.stderr.startswith(b"standard input:1: ") and done.stderr.endswith(b"there is no signal \\xff\n")
+
+
 def test_forms_of_lines() -> None:
     assert asked_by("  # c") is None and asked_by("a 5 # c") == Asked("at", ("a", "5")) and asked_by("quit") == Asked("exit", ())
     assert asked_by("a 5 9") == Asked("wave", ("a", "5", "9")) and asked_by("a") == Asked("signal", ("a",)) and asked_by("why") == Asked("why", ())

@@ -129,6 +129,14 @@ def test_a_link_a_pipe_and_permissions_stay(tools, write, tmp_path) -> None:
     reader = subprocess.Popen(["cat", tmp_path / "fifo"], stdout=subprocess.PIPE)
     assert tools("normalise", C17[0], "-o", tmp_path / "fifo").returncode == 0
     assert reader.communicate()[0] == kept.read_bytes()
+    assert tools("normalise", C17[0], "-o", "/dev/stdout").stdout == kept.read_bytes()
+
+
+@pytest.mark.parametrize("words", [["ask", *C17], ["run", *C17, "-"], ["names", C17[0]]])
+def test_an_input_that_is_closed(words: list[str], program: str) -> None:
+    given = os.environ | {"PYTHONPATH": str(TOP / "python"), "BACKSIM": program}
+    run = subprocess.run(["bash", "-c", '"$@" <&-', "bash", sys.executable, "-m", "backsim", *words], env=given, capture_output=True, text=True)
+    assert (run.returncode, run.stdout, run.stderr) == (2, "", "standard input: Bad file descriptor\n")
 
 
 SLOW = """#!/bin/sh

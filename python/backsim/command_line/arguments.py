@@ -4,7 +4,8 @@ from __future__ import annotations
 import argparse
 import os
 import sys
-from collections.abc import Callable
+from collections.abc import Callable, Iterator
+from contextlib import contextmanager
 from typing import TYPE_CHECKING, BinaryIO
 
 from ..errors import FormatError, UsageError, WordsError, reason_of
@@ -94,11 +95,20 @@ def add_memo(parser: argparse.ArgumentParser) -> None:
                         help=f"of each shard, {MOST_CELLS} where it is left out; each takes some 100 bytes once it comes")
 
 
-def opened(path: str) -> BinaryIO:
-    """The file to read, standard input for `-`. FormatError where it can't be opened."""
-    if path == "-":
-        return sys.stdin.buffer
+@contextmanager
+def opened(path: str) -> Iterator[BinaryIO]:
+    """The file to read, standard input for `-`. FormatError where it can't be opened, or read."""
     try:
-        return open(path, "rb")
+        if path == "-":
+            yield sys.stdin.buffer
+            return
+        with open(path, "rb") as stream:
+            yield stream
     except (OSError, ValueError) as error:
-        raise FormatError(path, None, reason_of(error)) from None
+        raise FormatError("standard input" if path == "-" else path, None, reason_of(error)) from None
+
+
+def lines_of_file(path: str) -> Iterator[bytes]:
+    """The lines of the file, or of standard input for `-`. FormatError as of `opened`."""
+    with opened(path) as stream:
+        yield from stream

@@ -11,7 +11,7 @@ from contextlib import contextmanager, nullcontext
 from pathlib import Path
 from typing import Any
 
-from ..command_line.arguments import add_files, add_memo, add_program, unit_of_session
+from ..command_line.arguments import add_files, add_memo, add_program, lines_of_file, unit_of_session
 from ..errors import BacksimError
 from ..prompting.answers import Answers
 from ..prompting.complete import Names, completed
@@ -60,9 +60,9 @@ class _Prompt:
         status = 0
         answers = self._answers()
         with self._session:
-            for number, line in enumerate(sys.stdin, 1):
+            for number, line in enumerate(lines_of_file("-"), 1):
                 try:
-                    for text in answers.lines(line):
+                    for text in answers.lines(line.decode("utf-8", "backslashreplace")):
                         print(text)
                     sys.stdout.flush()
                 except EOFError:

@@ -6,8 +6,8 @@ import sys
 from collections.abc import Iterable, Iterator, Sequence
 
 from ..circuit.buses import matching, signals_of
-from ..command_line.arguments import opened
-from ..errors import FormatError, UsageError, WordsError, reason_of
+from ..command_line.arguments import lines_of_file
+from ..errors import FormatError, UsageError, WordsError
 from ..formats.journal import ENTRY_TYPES
 from ..formats.netlist import read_netlist
 
@@ -33,11 +33,7 @@ def run(arguments: argparse.Namespace) -> int:
             raise WordsError("say a FILE or --list, and not both")
         sys.stdout.writelines(f"{name}\n" for name in listed(arguments.list, names, arguments.netlist))
         return 0
-    try:
-        with opened(arguments.file) as stream:
-            sys.stdout.writelines(named(stream, names, arguments.file))
-    except IsADirectoryError as error:
-        raise FormatError(arguments.file, None, reason_of(error)) from None
+    sys.stdout.writelines(named(lines_of_file(arguments.file), names, arguments.file))
     return 0
 
 
