@@ -79,6 +79,20 @@ def test_a_netlist_without_inputs(tmp_path, write) -> None:
     assert in_order(icarus(tmp_path, tmp_path / "n.v", top="circuit")) == "wave q 0 10\n0 0\n3 1\n6 0\n9 1\nend\n"
 
 
+@pytest.mark.parametrize("unit, fits", [("10 ps", True), ("1 us", True), ("25 ps", False)])
+def test_a_dump_has_the_unit_of_the_files(unit: str, fits: bool, tmp_path, write, capsys, program) -> None:
+    """No time scale is 25 ps; the dump is of 1 ns then, and not that of the files."""
+    files = [str(write("n", "OUTPUT(q)\nq = DFF(p)\np = NOT(q)\n")), str(write("t", f"# unit {unit}\nclock 2 3\ninit q 0\n"))]
+    assert main(["to-verilog", *files, str(write("s", "horizon 9\n")), "--dump", str(tmp_path / "d.vcd"), "-o", str(tmp_path / "n.v")]) == 0
+    icarus(tmp_path, tmp_path / "n.v", top="circuit")
+    status = main(["compare", *files, str(tmp_path / "d.vcd"), "circuit", "--ticks", "10", "--every-time", "--program", program])
+    said = capsys.readouterr()
+    if fits:
+        assert (status, said.out) == (0, "2 signals compared at 10 times; nets and buses that differ: 0\n")
+    else:
+        assert status == 2 and said.err.endswith("its unit of time is 1 ns, and that of the timing file is 25 ps\n")
+
+
 @pytest.mark.parametrize("line, cause", [
     ("stats", "Verilog answers"), ("vcd file", "Verilog answers"), ("why 22 3", "Verilog answers"), ("stuck 1 0 22 0 5", "Verilog answers"),
     ("trim 3", "Verilog answers"), ("wave 22", "Verilog answers"), ("wave 99 0 3", "the netlist has no signal 99"),

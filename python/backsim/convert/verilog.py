@@ -14,6 +14,7 @@ from ..formats.circuit import Circuit
 from ..formats.netlist import Gate
 from ..formats.script import AtLine, FirstLine, Go, Line, WaveLine
 from ..formats.timing import Timing
+from ..formats.units import SECONDS, Unit
 from ..records import dataclass
 
 _LINE, _LAST, _TIME, _FOUND = r"\(line) ", r"\(last) ", r"\(time) ", r"\(found) "
@@ -76,7 +77,7 @@ def with_dump(circuit: Source, file: str) -> Iterator[str]:
 
 def _circuit(circuit: Source) -> Iterator[str]:
     gates = circuit.netlist.gates.values()
-    yield "`timescale 1ns / 100ps"
+    yield _timescale(circuit.timing.unit or circuit.stimulus.unit)
     yield r"module \delay() (output reg y, input a); parameter D = 1; always @(a) y <= #D a; endmodule"
     yield r"module \DFF() (output reg q, input clock, input d); parameter D = 1, FIRST = 1'bx;"
     yield "    initial q <= FIRST; always @(posedge clock) q <= #(D - 0.5) ~(~d); endmodule"
@@ -88,6 +89,14 @@ def _circuit(circuit: Source) -> Iterator[str]:
     yield from _settings(circuit)
     for gate in gates:
         yield from _flop(gate, circuit.timing) if gate.kind is Kind.DFF else _gate(gate, circuit)
+
+
+def _timescale(unit: Unit | None) -> str:
+    """The time scale, with ten steps to a unit: the unit of the files, or 1 ns where they state none or one that no time scale can be."""
+    whole = unit if unit is not None and unit.count in (1, 10, 100) and unit != Unit(1, "fs") else Unit(1, "ns")
+    words = list(SECONDS)
+    step = Unit(whole.count // 10, whole.word) if whole.count > 1 else Unit(100, words[words.index(whole.word) + 1])
+    return f"`timescale {whole.count}{whole.word} / {step.count}{step.word}"
 
 
 def _function(kind: Kind, pins: Sequence[str]) -> str:
