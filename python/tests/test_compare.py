@@ -98,6 +98,15 @@ def test_bad_words(words: tuple, cause: str, compared) -> None:
     assert status == 2 and len(lines) == 1 and cause in lines[0]
 
 
+def test_a_path_that_is_too_long_is_found_by_settled(write, program, tools, tmp_path) -> None:
+    """m takes 30 from q[0] to q[1], and shows it 30 + 1 after an edge; the next comes after 20."""
+    timing, stimulus = write("t", TIMING + "delay m 30\n"), tmp_path / "s"
+    done = tools("compare", write("n", NETLIST), timing, write("d.vcd", dump()), "test", "--stimulus", stimulus, "--program", program)
+    assert done.returncode == 2 and b"never is the longest path's time, 31, between two events" in done.stderr and b"settled" in done.stderr
+    done = tools("settled", write("n", NETLIST), timing, stimulus)
+    assert (done.returncode, done.stdout.decode().splitlines()[-2]) == (1, "clock clk to clock clk: path 31, time 20, TOO LATE at q[1]")
+
+
 def test_a_command_of_its_own(write, program, tools) -> None:
     files = write("n", NETLIST), write("t", TIMING), write("d.vcd", dump(["00", "01", "00", "01", "00"], "01010"))
     done: subprocess.CompletedProcess[bytes] = tools("compare", *files, "test", "--program", program)

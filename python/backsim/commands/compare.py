@@ -65,9 +65,15 @@ def run(arguments: argparse.Namespace) -> int:
                      + " ..." * (len(races) > _SHOWN))
     events = events_of(netlist, timing, stimulus)
     times = range(first, stimulus.horizon + 1) if arguments.every_time else settled_times(events, longest, first, stimulus.horizon)
+    if arguments.stimulus:
+        with whole_text(arguments.stimulus) as stream:
+            write_stimulus(stimulus, stream)
+    if arguments.window:
+        with whole_text(arguments.window) as stream:
+            write_timing(timing, stream)
     if not times:
-        raise UsageError(f"{arguments.vcd}: never is the longest path's time, {longest}, between two events, so gates do not settle; with a dump that has "
-                         "the delays of the timing file take --every-time")
+        raise UsageError(f"{arguments.vcd}: never is the longest path's time, {longest}, between two events, so gates do not settle: `backsim-tools settled` "
+                         "with the --stimulus FILE tells paths that are too long; with a dump that has the delays of the timing file take --every-time")
     bits: dict[str, Changes] = {name: dump.in_units(changes) for name, changes in dump.bits({*netlist.inputs, *wanted}).items()}
     if arguments.every_time:
         bits = without_further_names(netlist, bits)
@@ -76,12 +82,6 @@ def run(arguments: argparse.Namespace) -> int:
         raise FormatError(arguments.vcd, None, f"no signal of the netlist is dumped in the scope {arguments.scope}")
     with Session(arguments.netlist, timing, stimulus, program=arguments.program) as session:
         found = compare(session, bits, events, times)
-    if arguments.stimulus:
-        with whole_text(arguments.stimulus) as stream:
-            write_stimulus(stimulus, stream)
-    if arguments.window:
-        with whole_text(arguments.window) as stream:
-            write_timing(timing, stream)
     for note in notes:
         say(note)
     _tell(found, netlist, dump.start, arguments)
