@@ -119,6 +119,10 @@ def test_a_bus_and_what_it_is_as_json(write, program, capsys, monkeypatch) -> No
     assert [step["name"] for step in found["chains"][0]["steps"]] == ["s[1]", "a[1]"]
     assert main(["why", *files, "s", "2"]) == 0
     assert "x: 2 inputs have no value before 3: a[1:0]" in capsys.readouterr().out
+    # of a word of which a part is known, the causes of both parts are told
+    assert main(["why", *files[:2], str(write("c.stim", "horizon 20\nset a[1] 3 0\n")), "s", "10", "--chains", "0"]) == 0
+    told = capsys.readouterr().out.splitlines()
+    assert told[0] == "s[1:0] is 0x at 10" and {"0x: input a[1], set to 0 at 3", "0x: input a[0] is never set"} <= set(told)
 
 
 def test_the_processor_of_the_example(example, program) -> None:

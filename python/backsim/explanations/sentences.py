@@ -220,7 +220,7 @@ def _deciding_pin(explanation: Explanation) -> str | None:
 
 
 def _letter(explanation: Explanation) -> str:
-    return "x" if explanation.value.strip("01") else word_text(explanation.value)
+    return word_text(explanation.value) if explanation.value.strip("xz") else "x"
 
 
 def _counted(count: int, word: str) -> str:
