@@ -154,7 +154,7 @@ def test_bad_files(name: str, words: list[str], kind: str, tmp_path: Path, capfd
 def prepare(monkeypatch: pytest.MonkeyPatch, program: str) -> None:
     """Has commands find the program, `ask` read the questions, and `view` end where it would answer its page until a signal comes."""
     monkeypatch.setenv("BACKSIM", program)
-    monkeypatch.setattr(sys, "stdin", io.StringIO(QUESTIONS))
+    monkeypatch.setattr(sys, "stdin", io.TextIOWrapper(io.BytesIO(QUESTIONS.encode())))
     monkeypatch.setattr(Pages, "serve_forever", lambda pages: None)
 
 

@@ -222,7 +222,9 @@ def test_cells_that_can_not_be_had_are_refused_by_name(cells: dict, cause: str, 
 def test_names_that_can_not_be_had_are_refused(tmp_path, capsys) -> None:
     gates = {"g": cell("$_NOT_", A=2, Y=5)}
     assert written(gates, tmp_path, NAMES | {"y(1)": {"bits": [5], "attributes": {}}}) == 2
-    assert "no signal of a netlist may have the name y(1)" in capsys.readouterr().err
+    assert "no signal of a netlist may have the name y(1), since it may have no blank and none of (" in capsys.readouterr().err
+    assert written(gates, tmp_path, NAMES | {256 * "y": {"bits": [5], "attributes": {}}}) == 2
+    assert "since it has more than 255 letters: rename it" in capsys.readouterr().err
     assert written(gates, tmp_path, NAMES | {"v": {"bits": [2, 3], "attributes": {}}, "v[0]": {"bits": [3], "attributes": {}}}) == 2
     assert "two nets have the name v[0]" in capsys.readouterr().err
     pads = NAMES | {"z": {"bits": [9], "attributes": {"src": "pad.v:2.9-2.11"}}}

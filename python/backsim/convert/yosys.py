@@ -103,6 +103,8 @@ def _parse(path: type_of_path) -> object:
         return json.loads(data)
     except json.JSONDecodeError as error:
         raise FormatError(path, error.lineno, f"this is no JSON: {error.msg}") from None
+    except UnicodeDecodeError:
+        raise FormatError(path, None, "this is no JSON: its bytes are no text") from None
     except (OSError, ValueError) as error:
         raise FormatError(path, None, reason_of(error)) from None
     except RecursionError:
@@ -232,7 +234,8 @@ class Names:
             return
         for _, name in public:
             if not is_name(name) or len(name) > NAME_LIMIT:
-                raise self._module.fault(f"no signal of a netlist may have the name {ascii(name)[1:-1]}: rename it in the source")
+                cause = f"it has more than {NAME_LIMIT} letters" if is_name(name) else "it may have no blank and none of (, ), comma, = and #"
+                raise self._module.fault(f"no signal of a netlist may have the name {ascii(name)[1:-1]}, since {cause}: rename it in the source")
         chosen = self._inputs.get(bit) or min(public, key=lambda found: self._rank(bit, *found))[1]
         self.of[bit] = chosen
         self.others[bit] = [name for name in dict.fromkeys(name for _, name in public) if name != chosen]

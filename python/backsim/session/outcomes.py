@@ -16,7 +16,7 @@ if TYPE_CHECKING:
 
 # a fault may pass: a read or a write failed, or memory ran out; above 128 a signal ended the program
 _PASSING = (3, 4, 6)
-FAULTS = {3: "could not be read", 4: "could not be written", 5: "could not be opened, created or finished"}
+FAULTS = {3: "could not be read", 4: "could not be written", 5: "could not be opened"}
 _ENDS = {0: "the program ended before all was answered", 1: "the program does not take these words", 6: "the program ran out of memory",
          7: "the program could not be built"}
 _SIGNALS = 128
@@ -60,8 +60,9 @@ class Fault(SessionError):
     def __init__(self, status: int, place: str, path: str | None, inputs: Sequence[str] = ()) -> None:
         self.place, self.path = place, path
         reason = _reason_of(path, place, inputs) if path else ""
-        what = "dump" if place == "vcd" else place
-        super().__init__(f"{path or f'backsim: {place}'}: the {what} {FAULTS[status]}" + (f": {reason}" if reason else ""), status)
+        what = {"vcd": "dump", "timing": "timing file"}.get(place, place)
+        done = "could not be created or finished" if status == 5 and place in _BEGINNINGS else FAULTS[status]
+        super().__init__(f"{path or f'backsim: {place}'}: the {what} {done}" + (f": {reason}" if reason else ""), status)
 
 
 def _line_of(path: str, number: int) -> str:
