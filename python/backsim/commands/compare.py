@@ -72,8 +72,9 @@ def run(arguments: argparse.Namespace) -> int:
         with whole_text(arguments.window) as stream:
             write_timing(timing, stream)
     if not times:
-        raise UsageError(f"{arguments.vcd}: never is the longest path's time, {longest}, between two events, so gates do not settle: `backsim-tools settled` "
-                         "with the --stimulus FILE tells paths that are too long; with a dump that has the delays of the timing file take --every-time")
+        raise UsageError(f"{arguments.vcd}: never is the longest path's time, {longest}, between two events, so gates do not settle: a smaller unit "
+                         "leaves more time to delays of 1; `backsim-tools settled` with the --stimulus FILE tells paths that are too long; with a dump that has "
+                         "the delays of the timing file take --every-time")
     bits: dict[str, Changes] = {name: dump.in_units(changes) for name, changes in dump.bits({*netlist.inputs, *wanted}).items()}
     if arguments.every_time:
         bits = without_further_names(netlist, bits)

@@ -86,7 +86,8 @@ class Span:
             return self.ticks
         ticks = self.unit.seconds / Unit(vcd.ticks, vcd.unit).seconds
         if ticks.denominator != 1:
-            raise FormatError(vcd.path, None, f"a tick of it is {vcd.ticks} {vcd.unit}, and {self.unit} is no multiple of that")
+            raise FormatError(vcd.path, None, f"a tick of it is {vcd.ticks} {vcd.unit}, and {self.unit} is no multiple of that: a finer "
+                              "tick is the second time of Verilog's `timescale`")
         return int(ticks)
 
     def units(self, vcd: Vcd) -> tuple[int, int | None]:
