@@ -118,6 +118,15 @@ def test_what_can_not_be_written_leaves_what_was_there(words: list[str], tmp_pat
     assert sorted(tmp_path.iterdir()) == sorted({*before, out})
 
 
+@pytest.mark.parametrize("words", [["faults", *C17[:2], "PATTERNS", "--period", "5", "--program", "nothing", option] for option in ("--csv", "--dictionary", "--left", "--shown")]
+                         + [["patterns", *C17[:2], "-o"], ["compact", *C17[:2], "PATTERNS", "--period", "5", "-o"]])
+@pytest.mark.parametrize("place, cause", [("nowhere/out", "No such file or directory"), ("PARTS", "Is a directory")])
+def test_where_nothing_can_be_written_no_work_begins(words: list[str], place: str, cause: str, tools, tmp_path) -> None:
+    words_of(words[0], tmp_path)
+    run = tools(*words, place, cwd=tmp_path)
+    assert (run.returncode, run.stdout, run.stderr.decode()) == (2, b"", f"{place}: it can't be written: {cause}\n")
+
+
 def test_a_link_a_pipe_and_permissions_stay(tools, write, tmp_path) -> None:
     kept = write("kept", "old")
     kept.chmod(0o640)

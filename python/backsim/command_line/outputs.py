@@ -4,6 +4,7 @@ What is written stands beside its place first, under a name of its own, and is r
 writing, a full disk or a signal, leaves what stood there before."""
 from __future__ import annotations
 
+import errno
 import os
 import shutil
 import stat
@@ -30,6 +31,37 @@ def write_whole(path: type_of_path, data: bytes) -> None:
         raise FormatError(path, None, f"it can't be written: {reason_of(error)}") from None
 
 
+def check_places(*paths: type_of_path | None) -> None:
+    """FormatError where one of these files can't be written, for a command that works long before it writes. Nothing is left there."""
+    for path in paths:
+        if path is None:
+            continue
+        try:
+            mode = _mode_of(path)
+            if mode is None or stat.S_ISREG(mode):
+                _check_place(os.path.realpath(path), mode)
+            elif stat.S_ISDIR(mode):
+                raise IsADirectoryError(errno.EISDIR, os.strerror(errno.EISDIR))
+        except (OSError, ValueError) as error:
+            raise FormatError(path, None, f"it can't be written: {reason_of(error)}") from None
+
+
+def _check_place(place: str, mode: int | None) -> None:
+    """Tries whether a file can be made beside the place."""
+    _check_mode(place, mode)
+    beside = _beside(place)
+    try:
+        open(beside, "xb").close()
+    finally:
+        if os.path.exists(beside):
+            os.unlink(beside)
+
+
+def _check_mode(place: str, mode: int | None) -> None:
+    if mode is not None and not os.access(place, os.W_OK):
+        raise PermissionError(0, "the file may not be written")
+
+
 def _mode_of(path: type_of_path) -> int | None:
     try:
         return os.stat(path).st_mode
@@ -39,8 +71,7 @@ def _mode_of(path: type_of_path) -> int | None:
 
 def _replace(place: str, data: bytes, mode: int | None) -> None:
     """Makes the file anew; `mode` is that of the file that stands there, whose permissions the new one has."""
-    if mode is not None and not os.access(place, os.W_OK):
-        raise PermissionError(0, "the file may not be written")
+    _check_mode(place, mode)
     beside = _beside(place)
     try:
         with open(beside, "xb") as stream:

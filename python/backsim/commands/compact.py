@@ -4,6 +4,7 @@ from __future__ import annotations
 import argparse
 
 from ..command_line.bars import Bar
+from ..command_line.outputs import check_places
 from ..convert.output import add_output, say, whole_text
 from ..convert.tables import ones_of
 from ..errors import UsageError, WordsError
@@ -32,6 +33,7 @@ def run(arguments: argparse.Namespace) -> int:
     if patterns is None or arguments.times:
         raise WordsError("patterns and the usual looks are wanted: no stimulus file, and no --times")
     classes = stuck_classes_of(arguments, looks.lines)
+    check_places(arguments.output)
     finder = finder_for(arguments, looks, classes, 0)
     assert isinstance(finder, CombinationalFinder)
     with Bar(finder.total, "simulated", has_lines=True) as bar:

@@ -7,6 +7,7 @@ from pathlib import Path
 
 from ..command_line.arguments import add_program, count_of
 from ..command_line.bars import Bar
+from ..command_line.outputs import check_places
 from ..convert.output import say, whole_text
 from ..errors import UsageError, WordsError, type_of_path
 from ..faults import looks as looks_of
@@ -72,6 +73,7 @@ def run(arguments: argparse.Namespace) -> int:
         with whole_text(arguments.write_list) as stream:
             write_faults((own.shown_as for own in classes), looks.lines, stream)
         return 0
+    check_places(arguments.shown, arguments.left, arguments.csv, arguments.dictionary)
     if not looks.circuit.netlist.outputs:
         raise UsageError(f"{arguments.netlist}: the netlist has no OUTPUT, so nothing shows a fault")
     if (arguments.write or arguments.read) and any(own.asked.is_transition for own in classes):

@@ -6,6 +6,7 @@ import random
 
 from ..command_line.arguments import count_of
 from ..command_line.bars import Bar
+from ..command_line.outputs import check_places
 from ..command_line.partial import PARTIAL
 from ..convert.build import constant_value
 from ..convert.output import add_output, say, whole_text
@@ -58,6 +59,7 @@ def run(arguments: argparse.Namespace) -> int:
     inputs = tuple(name for name in netlist.inputs if constant_value(name) is None)
     if not inputs:
         raise UsageError(f"{arguments.netlist}: the netlist has no INPUT to apply patterns to")
+    check_places(arguments.output)
     search = Search(classes, inputs, random.Random(arguments.seed), -(-len(classes) * arguments.coverage // 100), arguments.idle, arguments.most)
     is_partial = False
     try:
