@@ -1,6 +1,6 @@
 -- What a line that asks for a dump leads to, and how the file of a dump stands.
-use Rattle.std.proofs.Common.{◌≡◌, ℕ, zero, suc, ◌+◌, ◌<◌, Bool, true, false, cond, not, ◌&&◌, ◌||◌, ◌==◌, nat_lt, nat_le, List, [], ◌∷◌, ◌++◌, length, map, length-append, Option, Some, None, Result, Ok, Err, All, Contains, refl, sym, ap, ap₂, subst, ◌∙◌, append-nil, arith, inl, inr}
-use Rattle.std.specs.Prelude.{OnErr, OnOk, IfSome, is_err}
+use Rattle.std.proofs.Common.{◌≡◌, ℕ, zero, suc, ◌+◌, ◌<◌, Bool, true, false, cond, not, ◌&&◌, ◌||◌, ◌==◌, nat_lt, nat_le, List, [], ◌∷◌, ◌++◌, length, map, length-append, Option, Some, None, Result, Ok, Err, All, Contains, refl, sym, ap, ap₂, subst, ◌∙◌, append-nil, arith, ◌⊎◌, inl, inr}
+use Rattle.std.specs.Prelude.{IsErrAnd, OnErr, OnOk, IfSome, is_err}
 use Rattle.std.specs.List.{list_any, list_all}
 use Rattle.std.specs.Str.{bytes_eq, IsUtf8, IsAscii}
 use Rattle.std.proofs.lemmas.Bool.{and_parts, leb-true, ne_eqb, eq-eqb, true≢false, false≢true}
@@ -30,19 +30,20 @@ use Rattle.session_loop.specs.declared.desk.Dumps.{Dumps}
 use Rattle.session_loop.specs.declared.desk.LastBatch.{LastBatch}
 use Rattle.session_loop.specs.declared.stop.RepliesStop.{RepliesStop}
 use Rattle.session_loop.specs.declared.stop.DumpStop.{DumpStop}
+use Rattle.session_loop.specs.declared.stop.UnitStop.{UnitStop}
 use Rattle.session_loop.specs.declared.service.Service.{Service}
 use Rattle.unit_answers.specs.Stores.{cells_of, AreStores}
 use Rattle.session_loop.specs.Halting.{session_files}
 use Rattle.session_loop.specs.Serving.{BreaksAt, memo_of, session_of}
 use Rattle.session_loop.specs.Stops.{of_replies, of_dump}
-use Rattle.session_loop.specs.Outside.{Seen, seen, with_file}
+use Rattle.session_loop.specs.Outside.{Seen, seen, UnitsStop, with_file}
 use Rattle.session_loop.specs.inner.Desks.{IsCount, IsReady, IsShowable, Keeps, KeepsDumps, Shows, refused_reply, refused_last}
 use Rattle.session_loop.specs.inner.Outside.{RepliesStops, DumpStops}
 use Rattle.session_loop.specs.inner.Growing.{Adds, GrowsPart, IsDumpPart}
-use Rattle.session_loop.specs.inner.Serving.{UnitsServed, UnitsStopped}
+use Rattle.session_loop.specs.inner.Serving.{UnitsServed, UnitsStopped, ServesInPlace}
+use Rattle.session_loop.specs.inner.Telling.{MakesFile, WritesDumpPart, WritesDumpReplyPart, TellsDump}
 use Rattle.session_loop.proofs.Breaking.{within-map, broken-at, dump-broken-at, breaks-in-reply, breaks-in-dump}
 use Rattle.session_loop.proofs.Changes.{of-dump, of-reply, dump-served as dump-changes}
-use Rattle.session_loop.proofs.Growing.{goes-none}
 
 -- ---- calls
 
@@ -224,10 +225,10 @@ module _ (service : Service) (desk : Desk) (before : Seen) (ready : IsReady (mem
         adds (session_files name journal now.dumps) (omega (arith, stand)) was
 
     -- the file couldn't be created, written or finished
-    pub dump-stopped : (files : FilesState) (made : List Made → Type 0) (more : List Made) (stop : DumpStop) → DumpStops before.outputs.files files stop → IsDumpPart file text more
-        → Adds before.made made before.outputs.files.created more → files.created ≡ before.outputs.files.created + length more
-        → UnitsStopped service desk (Vcd file ∷ []) before (seen files made before.outputs.replies before.written) (of_dump stop)
-    dump-stopped files made more stop kind part adds created = record {
+    dump-stopped : (files : FilesState) (made : List Made → Type 0) (faults : ℕ) (written : List ℕ → Type 0) (more : List Made) (stop : DumpStop) → DumpStops before.outputs.files files stop → IsDumpPart file text more
+        → Adds before.made made before.outputs.files.created more → files.created ≡ before.outputs.files.created + length more → Grows before.written written [] → faults ≡ before.outputs.replies
+        → UnitsStopped service desk (Vcd file ∷ []) before (seen files made faults written) (of_dump stop)
+    dump-stopped files made faults written more stop kind part adds created unreplied calm = record {
       stopped = λ names units now session keeps.
           let setup : Setup = session_of service names in
           record {
@@ -237,11 +238,11 @@ module _ (service : Service) (desk : Desk) (before : Seen) (ready : IsReady (mem
             broken = within-map units (Vcd file ∷ []) (λ done later. IsBrokenInDump setup done later now.out (journal_of setup now) (now.dumps ++ more)) (BreaksAt setup now.out (journal_of setup now) (now.dumps ++ more) (of_dump stop))
                 (breaks-in-dump setup now.out (journal_of setup now) (now.dumps ++ more) stop)
                 (dump-broken-at setup units file now (now.dumps ++ more) session (more, refl) (subst (λ (c : Course). AreBegun (now.dumps ++ more) c.dumps) (leads names now keeps) (begun now)));
-            replied = goes-none before.written now.out;
+            replied = ([], sym (append-nil now.out), unreplied);
             recorded = λ name. go-on made names now more keeps adds name (journal_of setup now);
             count = let stand = count-is names now keeps in omega (arith, stand, created, length-append now.dumps more);
           };
-      state = of-dump before.outputs.replies before.outputs.files files stop kind;
+      state = subst (λ n. UnitsStop before.outputs (record { files = files; replies = n }) (of_dump stop)) (sym calm) (of-dump before.outputs.replies before.outputs.files files stop kind);
     }
       where
         begun : (now : Course) → AreBegun (now.dumps ++ more) (with_dump now file wires).dumps
@@ -256,7 +257,7 @@ module _ (service : Service) (desk : Desk) (before : Seen) (ready : IsReady (mem
     module _ (line : List ℕ) (line-is : line ≡ vcd_line file (replies.Made (length wires))) (files : FilesState) (made : List Made → Type 0) (faults : ℕ) (written : List ℕ → Type 0)
         (adds : Adds before.made made before.outputs.files.created (dump ∷ [])) (is : files ≡ record before.outputs.files { created = before.outputs.files.created + 1 }) where
       -- all of it
-      pub dump-served : (later : Desk) → later.stores ≡ desk.stores → later.counts ≡ desk.counts → later.dumps.last ≡ desk.dumps.last → later.dumps.own ≡ desk.dumps.own
+      dump-served : (later : Desk) → later.stores ≡ desk.stores → later.counts ≡ desk.counts → later.dumps.last ≡ desk.dumps.last → later.dumps.own ≡ desk.dumps.own
           → later.dumps.made.items ≡ desk.dumps.made.items ++ file ∷ [] → later.last_site ≡ desk.last_site → Grows before.written written line → faults ≡ before.outputs.replies
           → UnitsServed service desk later (Vcd file ∷ []) before (seen files made faults written)
       dump-served later stores counts same own names-are site replied calm = record {
@@ -291,7 +292,7 @@ module _ (service : Service) (desk : Desk) (before : Seen) (ready : IsReady (mem
       }
 
       -- or a part of it
-      pub reply-stopped : (stop : RepliesStop) → RepliesStops before.outputs.replies faults stop → GrowsPart before.written written line → UnitsStopped service desk (Vcd file ∷ []) before (seen files made faults written) (of_replies stop)
+      reply-stopped : (stop : RepliesStop) → RepliesStops before.outputs.replies faults stop → GrowsPart before.written written line → UnitsStopped service desk (Vcd file ∷ []) before (seen files made faults written) (of_replies stop)
       reply-stopped stop cause replied = record {
         stopped = λ names units now session keeps.
             let setup : Setup = session_of service names in
@@ -316,3 +317,33 @@ module _ (service : Service) (desk : Desk) (before : Seen) (ready : IsReady (mem
             };
         state = of-reply before.outputs.files files before.outputs.replies faults stop is cause;
       }
+
+    -- what was told of it, with a desk on which its name is taken
+    pub dump-told : {A : Type 0} (line : List ℕ) → line ≡ vcd_line file (replies.Made (length wires)) → (later : Desk) → later.stores ≡ desk.stores → later.counts ≡ desk.counts
+        → later.dumps.last ≡ desk.dumps.last → later.dumps.own ≡ desk.dumps.own → later.dumps.made.items ≡ desk.dumps.made.items ++ file ∷ [] → later.last_site ≡ desk.last_site
+        → (after : Seen) (result : Result A UnitStop) → TellsDump file text line result before after → ServesInPlace service desk later (Vcd file ∷ []) result before after
+    dump-told line line-is later stores counts same own names-are site after (Ok done) wrote =
+        dump-served line line-is after.outputs.files after.made after.outputs.replies after.written wrote.makes.added wrote.makes.files later stores counts same own names-are site wrote.replied wrote.calm
+    dump-told line line-is later stores counts same own names-are site after (Err stop) (inl wrote) =
+        subst (UnitsStopped service desk (Vcd file ∷ []) before after) (sym wrote.is)
+        (dump-stopped after.outputs.files after.made after.outputs.replies after.written wrote.more wrote.given wrote.state wrote.begun wrote.added wrote.created wrote.unreplied wrote.calm)
+    dump-told line line-is later stores counts same own names-are site after (Err stop) (inr wrote) =
+        subst (UnitsStopped service desk (Vcd file ∷ []) before after) (sym wrote.is)
+        (reply-stopped line line-is after.outputs.files after.made after.outputs.replies after.written wrote.makes.added wrote.makes.files wrote.given wrote.state wrote.replied)
+
+-- ---- what is written of a dump
+
+module _ (before after : Seen) where
+  -- its file was made under a name and with a text that are these
+  pub makes-file : (name bytes file text : List ℕ) → name ≡ file → bytes ≡ text → Adds before.made after.made before.outputs.files.created (record { name = name; bytes = bytes } ∷ [])
+      → after.outputs.files ≡ record before.outputs.files { created = before.outputs.files.created + 1 } → MakesFile before after file text
+  makes-file name bytes file text named same added files = record {
+    added = subst (λ (dump : Made). Adds before.made after.made before.outputs.files.created (dump ∷ [])) (ap₂ (λ n b. record { name = n; bytes = b }) named same) added;
+    files = files;
+  }
+
+-- the stop that a result hands on
+pub handed-dump : {A : Type 0} {was : UnitStop} (file text line : List ℕ) (before after : Seen) (result : Result A UnitStop) → IsErrAnd result (λ e. e ≡ was)
+    → WritesDumpPart before after file text was ⊎ WritesDumpReplyPart before after file text line was → TellsDump file text line result before after
+handed-dump file text line before after (Ok done) handed wrote = absurd handed
+handed-dump file text line before after (Err stop) handed wrote = subst (λ s. WritesDumpPart before after file text s ⊎ WritesDumpReplyPart before after file text line s) (sym handed) wrote

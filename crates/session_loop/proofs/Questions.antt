@@ -1,6 +1,6 @@
 -- A question with a batch of its own, and perhaps a memo of its own, is a unit of the session.
-use Rattle.std.proofs.Common.{◌≡◌, ℕ, ◌+◌, ◌<◌, ◌≤◌, List, [], ◌∷◌, ◌++◌, length, get_or, Option, Some, None, refl, sym, ap, subst, ◌∙◌, append_assoc, append-nil, length-append, arith}
-use Rattle.std.specs.Prelude.{IfSome}
+use Rattle.std.proofs.Common.{◌≡◌, ℕ, ◌+◌, ◌<◌, ◌≤◌, List, [], ◌∷◌, ◌++◌, length, get_or, sum_by, Option, Some, None, Result, Ok, Err, refl, sym, ap, subst, ◌∙◌, append_assoc, append-nil, length-append, arith}
+use Rattle.std.specs.Prelude.{IfSome, IsErrAnd}
 use Rattle.std.proofs.lemmas.List.Sums.{fold-append}
 use Rattle.cell_store.specs.Recency.{Contents}
 use Rattle.owned_text.specs.Made.{Made}
@@ -8,6 +8,7 @@ use Rattle.backsim_io.specs.FilesInMemory.{FileGrows}
 use Rattle.circuit_meaning.specs.Circuit.{Circuit}
 use Rattle.journal_meaning.specs.declared.Entry.{Entry}
 use Rattle.batch_meaning.specs.Batches.{Site, Batch as BatchRecord}
+use Rattle.journal_meaning.specs.Counts.{count}
 use Rattle.journal_meaning.specs.States.{fresh}
 use Rattle.journal_meaning.specs.Replay.{replay, IsLegalBatch}
 use Rattle.journal_meaning.specs.Sections.{Asks, Forces, SectionEntries, cells_left, cells_after}
@@ -22,7 +23,7 @@ use Rattle.design.specs.Joined.{Joined}
 use Rattle.session_meaning.specs.declared.Verdict.{Verdict}
 use Rattle.session_meaning.specs.declared.Verdict.TheVariants.{Ask, Unknown, Past}
 use Rattle.session_meaning.specs.Verdicts.{question_verdict, site_of}
-use Rattle.session_meaning.specs.Session.{Setup, Course, IsServed, question_batch, held_sections, own_sections, with_section, with_sections}
+use Rattle.session_meaning.specs.Session.{Setup, Course, IsServed, question_batch, held_sections, own_sections, with_section, with_sections, is_fill, is_eviction}
 use Rattle.session_meaning.specs.Questions.{IsOwnMemo}
 use Rattle.session_meaning.specs.StuckSignals.{held_batch, IsHeldMemo}
 use Rattle.session_meaning.specs.Broken.{journal_of}
@@ -32,15 +33,16 @@ use Rattle.session_loop.specs.declared.desk.Desk.{Desk}
 use Rattle.session_loop.specs.declared.desk.Dumps.{Dumps}
 use Rattle.session_loop.specs.declared.service.Service.{Service}
 use Rattle.session_loop.specs.declared.stop.UnitStop.{UnitStop}
+use Rattle.session_loop.specs.declared.stop.UnitStop.TheVariants.{OutOfMemory}
 use Rattle.unit_answers.specs.Stores.{cells_of}
 use Rattle.unit_answers.specs.Done.{IsQuestionDone}
 use Rattle.session_loop.specs.inner.Desks.{IsCount, IsCounted, IsHeldCounted, IsReady, Keeps}
 use Rattle.session_loop.specs.Serving.{memo_of, session_of}
 use Rattle.session_loop.specs.Outside.{Seen}
 use Rattle.session_loop.specs.inner.Serving.{Serves, Stops, UnitsServed, UnitsStopped, held_text}
-use Rattle.session_loop.specs.inner.Telling.{WritesAll, WritesPart}
+use Rattle.session_loop.specs.inner.Telling.{WritesAll, WritesPart, TellsAnswer}
 use Rattle.session_loop.proofs.Growing.{file-none}
-use Rattle.session_loop.proofs.Served.{counts-more, cells-more, kept-dumps, sections-served, sections-stopped, unit-served, kept-desk}
+use Rattle.session_loop.proofs.Served.{nothing-told, counts-more, cells-more, kept-dumps, sections-served, sections-stopped, unit-served, kept-desk}
 
 -- The section of a memo of its own, if there is one.
 
@@ -209,3 +211,24 @@ few-by c (Some site) Past held memo = subst (λ l. length l ≤ 1) (sym memo) (o
 
 pub held-few : (d : Joined) (question : Question) (held : List (List Entry)) → IsOwnMemo d question held → length held ≤ 1
 held-few d question held memo = few-by d.circuit (site_of d question.asks) (question_verdict d question) held memo
+
+-- ---- what is told
+
+-- where there is no memory, or the sections are too many to count, nothing is told
+pub unanswered : (counts : Counts) (text : List ℕ) (lists held : List (List Entry)) (before : Seen) (result : Result Counts UnitStop) → IsErrAnd result (λ e. e ≡ OutOfMemory)
+    → TellsAnswer counts text lists held result before before
+unanswered counts text lists held before (Ok later) handed = absurd handed
+unanswered counts text lists held before (Err stop) handed =
+    let lines = section_lines (record { kind = Batch; number = counts.sections + 1; shards = lists }) ++ held_text (counts.sections + 1 + 1) held in
+    record {
+      counts = record {
+        sections = counts.sections + 1;
+        batches = counts.batches + 1;
+        fills = counts.fills + sum_by (count is_fill) lists;
+        evictions = counts.evictions + sum_by (count is_eviction) lists;
+      };
+      counted = record { sections = refl; batches = refl; fills = refl; evictions = refl };
+      held_counted = tt;
+      told = subst (WritesPart before before text lines) (sym handed)
+          (nothing-told before text lines);
+    }

@@ -41,6 +41,7 @@ use Rattle.session_loop.specs.declared.desk.LastBatch.{LastBatch}
 use Rattle.session_loop.specs.declared.service.Service.{Service}
 use Rattle.session_loop.specs.declared.stop.JournalStop.{JournalStop}
 use Rattle.session_loop.specs.declared.stop.RepliesStop.{RepliesStop}
+use Rattle.session_loop.specs.declared.stop.RepliesStop.TheVariants as replies_stops
 use Rattle.session_loop.specs.declared.stop.UnitStop.{UnitStop}
 use Rattle.session_loop.specs.declared.stop.UnitStop.TheVariants.{OutOfMemory}
 use Rattle.session_loop.specs.Outside.{Outputs, Seen, seen, JournalStops}
@@ -53,11 +54,11 @@ use Rattle.unit_answers.specs.Done.{IsBatchDone, IsTrimDone}
 use Rattle.unit_answers.specs.Dumps.{IsOwnWave}
 use Rattle.unit_answers.proofs.Dumping.{done-waves}
 use Rattle.session_loop.specs.inner.Desks.{IsCount, IsCounted, batches_in, counted_lists, Shows, KeepsDumps, IsShowable, IsDesk, IsReady, Keeps}
-use Rattle.session_loop.specs.inner.Telling.{OfReplies, OfJournal, WritesAll, WritesPart, Tells}
-use Rattle.session_loop.specs.inner.Serving.{ServedTo, Within, StoppedIn, Serves, Stops, StopsAfter, UnitsServed, UnitsStopped, ServesUnits}
+use Rattle.session_loop.specs.inner.Telling.{OfReplies, OfJournal, WritesAll, WritesPart, Tells, TellsBatch}
+use Rattle.session_loop.specs.inner.Serving.{ServedTo, Within, StoppedIn, Serves, Stops, StopsAfter, UnitsServed, UnitsStopped, ServesUnits, ServesInPlace}
 use Rattle.session_loop.proofs.Breaking.{within-front, within-longer, within-map, within-none, broken-none, broken-at, breaks-longer, breaks-in-reply, breaks-in-journal}
 use Rattle.session_loop.proofs.Changes.{calm, dumped-only, of-replies, of-journal, journal-created, same-outputs}
-use Rattle.session_loop.proofs.Growing.{goes-none, goes-trans, file-none, files-none, files-trans, journal-grows}
+use Rattle.session_loop.proofs.Growing.{goes-none, goes-trans, part-none, file-none, files-none, files-trans, journal-grows}
 
 -- no entry of a memo of its own is counted
 none-counted : (lists : List (List Entry)) → sum_by (λ (entries : List Entry). 0) lists ≡ 0
@@ -369,11 +370,46 @@ pub handed-stop : {service : Service} {desk : Desk} {units : List ScriptUnit} {b
 handed-stop (Ok later) handed stopped = absurd handed
 handed-stop {service} {desk} {units} {before} {after} (Err stop) handed stopped = subst (UnitsStopped service desk units before after) (sym handed) stopped
 
+-- and where the desk is changed in place
+pub handed-in-place : {A : Type 0} {service : Service} {desk : Desk} {units : List ScriptUnit} {before after : Seen} {was : UnitStop} (later : Desk) (result : Result A UnitStop) → IsErrAnd result (λ e. e ≡ was)
+    → UnitsStopped service desk units before after was → ServesInPlace service desk later units result before after
+handed-in-place later (Ok done) handed stopped = absurd handed
+handed-in-place {A} {service} {desk} {units} {before} {after} later (Err stop) handed stopped = subst (UnitsStopped service desk units before after) (sym handed) stopped
+
 -- the stop of a text and its lines that a result hands on
 pub handed-part : {A : Type 0} {text lines : List ℕ} {before after : Seen} {was : UnitStop} (result : Result A UnitStop) → IsErrAnd result (λ e. e ≡ was)
     → WritesPart before after text lines was → Tells text lines result before after
 handed-part (Ok done) handed wrote = absurd handed
 handed-part {A} {text} {lines} {before} {after} (Err stop) handed wrote = subst (WritesPart before after text lines) (sym handed) wrote
+
+-- where there is no memory, nothing is told
+pub nothing-told : (before : Seen) (text lines : List ℕ) → WritesPart before before text lines OutOfMemory
+nothing-told before text lines = text-begun before text lines before.outputs.replies before.written replies_stops.OutOfMemory refl (part-none before.written text)
+
+-- nor where the sections are too many to count
+pub batch-untold : (counts : Counts) (text : List ℕ) (lists : List (List Entry)) (before : Seen) → TellsBatch counts text lists (Err OutOfMemory) before before
+batch-untold counts text lists before = record {
+  counts = record {
+    sections = counts.sections + 1;
+    batches = counts.batches + 1;
+    fills = counts.fills + sum_by (count is_fill) lists;
+    evictions = counts.evictions + sum_by (count is_eviction) lists;
+  };
+  counted = record { sections = refl; batches = refl; fills = refl; evictions = refl };
+  same = tt;
+  told = nothing-told before text (section_lines (record { kind = Batch; number = counts.sections + 1; shards = lists }));
+}
+
+-- a batch whose section was counted stopped
+pub batch-part : (old counts : Counts) (text : List ℕ) (lists : List (List Entry)) (before after : Seen) {was : UnitStop} (result : Result Counts UnitStop) → IsErrAnd result (λ e. e ≡ was) → IsCounted old Batch lists counts
+    → WritesPart before after text (section_lines (record { kind = Batch; number = counts.sections; shards = lists })) was → TellsBatch old text lists result before after
+batch-part old counts text lists before after (Ok later) handed counted wrote = absurd handed
+batch-part old counts text lists before after (Err stop) handed counted wrote = record {
+  counts = counts;
+  counted = counted;
+  same = tt;
+  told = handed-part {A = Counts} (Err stop) handed wrote;
+}
 
 -- nothing of the next units was written
 pub units-none : {service : Service} {desk : Desk} {more : List ScriptUnit} (before : Seen) → IsReady (memo_of service) desk before.outputs.files → UnitsStopped service desk more before before OutOfMemory

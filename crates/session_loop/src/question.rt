@@ -1,7 +1,6 @@
 //! Questions that are batches of their own.
 
-ghost use Rattle.std.specs.Prelude.{◌≡◌, ◌∷◌, [], IfOk, IfSome};
-ghost use Rattle.journal_text.specs.declared.sections.SectionKind.TheVariants.{Batch};
+ghost use Rattle.std.specs.Prelude.{◌≡◌, ◌≤◌, ◌∷◌, [], Contains, IfOk, IfSome, vec_len};
 ghost use Rattle.query_lines.specs.declared.unit.Unit.TheVariants as kinds;
 ghost use Rattle.query_lines.specs.Laws.{SuitsWindow};
 ghost use Rattle.reply_lines.specs.Replies.{question_lines};
@@ -9,8 +8,9 @@ ghost use Rattle.unit_answers.specs.Done.{IsQuestionDone};
 ghost use Rattle.unit_answers.specs.Stores.{AreStores};
 ghost use Rattle.session_loop.specs.Outside.{seen};
 ghost use Rattle.session_loop.specs.Serving.{memo_of};
-ghost use Rattle.session_loop.specs.inner.Desks.{IsCounted, IsReady};
+ghost use Rattle.session_loop.specs.inner.Desks.{IsReady};
 ghost use Rattle.session_loop.specs.inner.Serving.{ServesUnits};
+ghost use Rattle.session_loop.specs.inner.Telling.{TellsAnswer};
 
 use crate::counting::count_section;
 use crate::desk::{Counts, Desk};
@@ -23,26 +23,22 @@ use journal_text::SectionKind;
 use owned_text::OutOfMemory;
 use query_lines::Question;
 use reply_lines::question_text;
-use std::alloc::Global;
 use stuck_faults::{AskedDesign, LastSite};
 use unit_answers::{QuestionDone, answer_question};
 use worker_gate::Crew;
 
-/// A question that was answered: its reply as text, the counts with its section, and what is kept of the last stuck signal.
+/// A question that was answered, and what is kept of the last stuck signal.
 #[derive(Drop)]
 struct AnsweredQuestion {
     done: QuestionDone,
-    text: Vec<u8>,
-    counts: Counts,
     last_site: Option<LastSite>,
 }
 
-/// Asks a question over the stores, with what is kept of the last stuck signal, and counts its section.
+/// Asks a question over the stores, with what is kept of the last stuck signal.
 fn ask(
     service: &Service<'_>,
     question: &Question,
     stores: Vec<CellStore>,
-    counts: Counts,
     last_site: Option<LastSite>,
 ) -> Result<AnsweredQuestion, OutOfMemory>
     requires suits { SuitsWindow question.now.asks question.now.window }
@@ -51,25 +47,41 @@ fn ask(
     ensures done { IfOk result (λ asked. IsQuestionDone (memo_of service.now) question.now
         stores.items asked.done.reply asked.done.lists.items asked.done.own_lists.items
         asked.done.stores.items) }
-    ensures text { IfOk result (λ asked. asked.text.items
-        ≡ question_lines question.now asked.done.reply) }
-    ensures counted { IfOk result (λ asked. IsCounted counts Batch asked.done.lists.items
-        asked.counts) }
     ensures site { IfOk result (λ asked.
         IfSome asked.last_site (λ last. last ≡ service.now.design.now)) }
 {
     let mut design = AskedDesign::new(service.design, last_site);
     let done = answer_question(service.alloc, &mut design, question, service.sizes, stores)?;
-    let text = question_text(service.alloc, question, &done.reply)?;
-    let Some(counts) = count_section(counts, SectionKind::Batch, &done.lists) else {
-        return Err(OutOfMemory);
-    };
     Ok(AnsweredQuestion {
         done,
-        text,
-        counts,
         last_site: design.into_last(),
     })
+}
+
+/// Counts the section of a question that was answered, and tells its reply and this section, with that of a memo of its own, if it
+/// has one.
+fn tell_answer<C: Crew, F: Files, S: Sink>(
+    crew: &C,
+    service: &Service<'_>,
+    question: &Question,
+    done: &QuestionDone,
+    counts: Counts,
+    files: &mut F,
+    out: &mut S,
+) -> Result<Counts, UnitStop>
+    requires few { vec_len done.now.lists ≤ 4294967295 }
+    requires held { vec_len done.now.own_lists ≤ 4294967295 }
+    requires unfinished { Contains (F.state files.old).unfinished 0 }
+    ensures { TellsAnswer counts (question_lines question.now done.now.reply)
+        done.now.lists.items done.now.own_lists.items result
+        (seen (F.state files.old) (F.made files.old) (S.faults out.old) (S.written out.old))
+        (seen (F.state files.new) (F.made files.new) (S.faults out.new) (S.written out.new)) }
+{
+    let Some(counts) = count_section(counts, SectionKind::Batch, &done.lists) else {
+        return Err(UnitStop::OutOfMemory);
+    };
+    let text = question_text(service.alloc, question, &done.reply)?;
+    tell_question(crew, service.alloc, &text, done, counts, files, out)
 }
 
 /// Serves a question: its reply, then its section, which is a batch's, and that of a memo of its own, if it has one.
@@ -93,13 +105,8 @@ pub fn serve_question<C: Crew, F: Files, S: Sink>(
         dumps,
         last_site,
     } = desk;
-    let AnsweredQuestion {
-        done,
-        text,
-        counts,
-        last_site,
-    } = ask(service, question, stores, counts, last_site)?;
-    let counts = tell_question(crew, service.alloc, &text, &done, counts, files, out)?;
+    let AnsweredQuestion { done, last_site } = ask(service, question, stores, last_site)?;
+    let counts = tell_answer(crew, service, question, &done, counts, files, out)?;
     Ok(Desk {
         stores: done.stores,
         counts,

@@ -8,7 +8,7 @@ ghost use Rattle.session_loop.specs.Outside.{seen};
 ghost use Rattle.session_loop.specs.inner.Desks.{IsHeldCounted};
 ghost use Rattle.session_loop.specs.inner.Pieces.{Records};
 ghost use Rattle.session_loop.specs.inner.Serving.{held_text};
-ghost use Rattle.session_loop.specs.inner.Telling.{Tells};
+ghost use Rattle.session_loop.specs.inner.Telling.{Tells, TellsBatch};
 
 use crate::counting::count_section;
 use crate::desk::Counts;
@@ -21,27 +21,31 @@ use std::alloc::Global;
 use unit_answers::{BatchDone, QuestionDone};
 use worker_gate::Crew;
 
-/// Writes the replies to the items of a batch, and then its section, which has this number.
+/// Counts the section of a batch, and writes the replies to its items, and then this section.
 pub fn tell_batch<C: Crew, F: Files, S: Sink>(
     crew: &C,
     alloc: Global,
     items: &[Item],
     done: &BatchDone,
-    number: u32,
+    counts: Counts,
     files: &mut F,
     out: &mut S,
-) -> Result<(), UnitStop>
+) -> Result<Counts, UnitStop>
     requires replies { vec_len done.now.replies ≡ length items.now }
     requires few { vec_len done.now.lists ≤ 4294967295 }
     requires unfinished { Contains (F.state files.old).unfinished 0 }
-    ensures { Tells (replies_text items.now done.now.replies.items)
-        (section_lines (record { kind = Batch; number = number; shards = done.now.lists.items })) result
+    ensures { TellsBatch counts (replies_text items.now done.now.replies.items)
+        done.now.lists.items result
         (seen (F.state files.old) (F.made files.old) (S.faults out.old) (S.written out.old))
         (seen (F.state files.new) (F.made files.new) (S.faults out.new) (S.written out.new)) }
 {
+    let Some(counts) = count_section(counts, SectionKind::Batch, &done.lists) else {
+        return Err(UnitStop::OutOfMemory);
+    };
+    let number = counts.sections;
     write_replies(alloc, items, &done.replies, out)?;
     write_section(crew, alloc, SectionKind::Batch, number, &done.lists, files)?;
-    Ok(())
+    Ok(counts)
 }
 
 /// Writes the reply to a trim, and then its section, which has this number.

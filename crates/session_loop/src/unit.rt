@@ -5,12 +5,13 @@ ghost use Rattle.journal_text.specs.declared.sections.SectionKind.TheVariants as
 ghost use Rattle.query_lines.specs.declared.unit.Unit.TheVariants as kinds;
 ghost use Rattle.query_lines.specs.Laws.{IsWithin};
 ghost use Rattle.query_lines.specs.Fit.{AsksByName, HaveOwnLines, IsFit};
-ghost use Rattle.reply_lines.specs.Replies.{trimmed_line};
-ghost use Rattle.unit_answers.specs.Done.{IsBatchDone, IsTrimDone};
+ghost use Rattle.reply_lines.specs.Replies.{stats_line, trimmed_line};
+ghost use Rattle.unit_answers.specs.Done.{IsTrimDone};
 ghost use Rattle.unit_answers.specs.Stores.{AreStores};
 ghost use Rattle.session_loop.specs.Outside.{seen};
 ghost use Rattle.session_loop.specs.Serving.{memo_of};
 ghost use Rattle.session_loop.specs.inner.Desks.{IsCounted, IsReady};
+ghost use Rattle.session_loop.specs.inner.Pieces.{Replies};
 ghost use Rattle.session_loop.specs.inner.Serving.{ServesUnits};
 
 use crate::counting::{cells_in, count_section, entries_in};
@@ -19,46 +20,17 @@ use crate::dump::serve_vcd;
 use crate::question::serve_question;
 use crate::section::write_reply;
 use crate::service::Service;
-use crate::stop::UnitStop;
+use crate::stop::{RepliesStop, UnitStop};
 use crate::tell::{tell_batch, tell_trim};
 use backsim_io::{Files, Sink};
 use cell_store::CellStore;
 use journal_text::SectionKind;
 use owned_text::OutOfMemory;
-use query_lines::{Item, ItemList, Unit, UnitList};
+use query_lines::{ItemList, Unit, UnitList};
 use reply_lines::{stats_text, trimmed_text};
-use unit_answers::{BatchDone, TrimDone, answer_batch, trim_stores};
+use std::alloc::Global;
+use unit_answers::{TrimDone, answer_batch, trim_stores};
 use worker_gate::Crew;
-
-/// Answers a batch over the stores, and counts its section.
-fn answer<C: Crew>(
-    crew: &C,
-    service: &Service<'_>,
-    items: &[Item],
-    stores: Vec<CellStore>,
-    counts: Counts,
-) -> Result<(BatchDone, Counts), OutOfMemory>
-    requires stores { AreStores (memo_of service.now) stores.items }
-    requires within { IsWithin service.now.design.now.circuit.horizon items.now }
-    requires lines { HaveOwnLines items.now }
-    ensures done { IfOk result (λ r. IsBatchDone (memo_of service.now) items.now stores.items
-        r.0.replies.items r.0.lists.items r.0.stores.items) }
-    ensures counted { IfOk result (λ r. IsCounted counts kinds_of_section.Batch r.0.lists.items
-        r.1) }
-{
-    let done = answer_batch(
-        crew,
-        service.alloc,
-        service.design,
-        items,
-        service.sizes,
-        stores,
-    )?;
-    match count_section(counts, SectionKind::Batch, &done.lists) {
-        Some(counts) => Ok((done, counts)),
-        None => Err(OutOfMemory),
-    }
-}
 
 /// Serves a batch: its replies in the order of the items, then its section.
 pub fn serve_batch<C: Crew, F: Files, S: Sink>(
@@ -85,13 +57,20 @@ pub fn serve_batch<C: Crew, F: Files, S: Sink>(
     } = desk;
     // The last batch is given up before the next one is answered.
     dumps.last = None;
-    let (done, counts) = answer(crew, service, items.as_slice(), stores, counts)?;
-    tell_batch(
+    let done = answer_batch(
+        crew,
+        service.alloc,
+        service.design,
+        items.as_slice(),
+        service.sizes,
+        stores,
+    )?;
+    let counts = tell_batch(
         crew,
         service.alloc,
         items.as_slice(),
         &done,
-        counts.sections,
+        counts,
         files,
         out,
     )?;
@@ -179,7 +158,21 @@ pub fn serve_trim<C: Crew, F: Files, S: Sink>(
     })
 }
 
-/// Tells the counts.
+/// Tells the counts of a desk.
+fn tell_stats<S: Sink>(alloc: Global, desk: &Desk, out: &mut S) -> Result<(), RepliesStop>
+    ensures { Replies (stats_line desk.now.counts.batches desk.now.counts.fills
+        desk.now.counts.evictions (sum_by (λ store. length store.cells) desk.now.stores.items))
+        result (S.faults out.old) (S.written out.old) (S.faults out.new) (S.written out.new) }
+{
+    let Some(cells) = cells_in(&desk.stores) else {
+        return Err(RepliesStop::OutOfMemory);
+    };
+    let counts = desk.counts;
+    let text = stats_text(alloc, counts.batches, counts.fills, counts.evictions, cells)?;
+    write_reply(&text, out)
+}
+
+/// Serves a line that asks for the counts.
 pub fn serve_stats<F: Files, S: Sink>(
     service: &Service<'_>,
     desk: Desk,
@@ -191,13 +184,7 @@ pub fn serve_stats<F: Files, S: Sink>(
         (seen (F.state files.old) (F.made files.old) (S.faults out.old) (S.written out.old))
         (seen (F.state files.new) (F.made files.new) (S.faults out.new) (S.written out.new)) }
 {
-    let alloc = service.alloc;
-    let Some(cells) = cells_in(&desk.stores) else {
-        return Err(UnitStop::OutOfMemory);
-    };
-    let counts = desk.counts;
-    let text = stats_text(alloc, counts.batches, counts.fills, counts.evictions, cells)?;
-    write_reply(&text, out)?;
+    tell_stats(service.alloc, &desk, out)?;
     Ok(desk)
 }
 

@@ -71,6 +71,11 @@ abbrev pub ServesUnits : Service → Desk → List ScriptUnit → Result Desk Un
 ServesUnits service desk units (Ok later) before after = UnitsServed service desk later units before after
 ServesUnits service desk units (Err stop) before after = UnitsStopped service desk units before after stop
 
+-- and where the desk is changed in place, to the later one
+abbrev pub ServesInPlace : {A : Type 0} → Service → Desk → Desk → List ScriptUnit → Result A UnitStop → Seen → Seen → Type 0
+ServesInPlace service desk later units (Ok done) before after = UnitsServed service desk later units before after
+ServesInPlace service desk later units (Err stop) before after = UnitsStopped service desk units before after stop
+
 -- the text of the section of a memo of its own, under this number, if a question had one
 abbrev pub held_text : ℕ → List (List Entry) → List ℕ
 held_text number [] = []

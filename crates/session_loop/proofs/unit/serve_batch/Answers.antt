@@ -28,19 +28,19 @@ tell_batch-requires-clause-replies g c = λ κs w.
     ∙ ap length (c.as_slice.ensures ∙ sym c.as_slice-2.ensures)
 
 -- what was told of it was begun
-pub returns-in_err-tell_batch : goal.returns-in_err-tell_batch
-returns-in_err-tell_batch g c =
+pub returns-in_err-counts : goal.returns-in_err-counts
+returns-in_err-counts g c =
     let done = c.in_ok-done.done in
     let items = c.args.items in
     let lists = done.lists.items in
-    let counts = c.in_ok-done.counts in
-    let lines : List ℕ = section_lines (record { kind = Batch; number = counts.sections; shards = lists }) in
-    let stop = c.in_err-tell_batch.field-0.0 in
+    let told = c.in_err-counts.ensures in
+    let lines : List ℕ = section_lines (record { kind = Batch; number = told.counts.sections; shards = lists }) in
+    let stop = c.in_err-counts.field-0.0 in
     let before : Seen = seen (g.F.Files.state c.args.files.now) (g.F.Files.made c.args.files.now) (g.S.Sink.faults c.args.out.now) (g.S.Sink.written c.args.out.now) in
     let after : Seen = seen (g.F.Files.state c.tell_batch.new.files) (g.F.Files.made c.tell_batch.new.files) (g.S.Sink.faults c.tell_batch.new.out) (g.S.Sink.written c.tell_batch.new.out) in
-    handed-stop c.from_residual-in_err-tell_batch.result c.from_residual-in_err-tell_batch.ensures.1
-    (batch-stopped c.args.service.now c.args.desk before after c.requires.ready items c.as_slice.result.now c.as_slice.ensures done.replies.items lists done.stores.items c.in_ok-done.ensures.done counts c.in_ok-done.ensures.counted
-    stop (subst (λ l. WritesPart before after (replies_text l done.replies.items) lines stop) c.as_slice-2.ensures c.in_err-tell_batch.ensures))
+    handed-stop c.from_residual-in_err-counts.result c.from_residual-in_err-counts.ensures.1
+    (batch-stopped c.args.service.now c.args.desk before after c.requires.ready items c.as_slice.result.now c.as_slice.ensures done.replies.items lists done.stores.items c.in_ok-done.ensures.done told.counts told.counted
+    stop (subst (λ l. WritesPart before after (replies_text l done.replies.items) lines stop) c.as_slice-2.ensures told.told))
 
 -- all was told
 pub returns : goal.returns
@@ -48,12 +48,12 @@ returns g c =
     let done = c.in_ok-done.done in
     let items = c.args.items in
     let lists = done.lists.items in
-    let counts = c.in_ok-done.counts in
-    let lines : List ℕ = section_lines (record { kind = Batch; number = counts.sections; shards = lists }) in
+    let told = c.in_ok-counts.ensures in
+    let lines : List ℕ = section_lines (record { kind = Batch; number = told.counts.sections; shards = lists }) in
     let before : Seen = seen (g.F.Files.state c.args.files.now) (g.F.Files.made c.args.files.now) (g.S.Sink.faults c.args.out.now) (g.S.Sink.written c.args.out.now) in
     let after : Seen = seen (g.F.Files.state c.tell_batch.new.files) (g.F.Files.made c.tell_batch.new.files) (g.S.Sink.faults c.tell_batch.new.out) (g.S.Sink.written c.tell_batch.new.out) in
     let last : LastBatch = record { items = items; replies = done.replies } in
-    let later : Desk = record { stores = done.stores; counts = counts; dumps = record { last = Some last; own = c.args.desk.dumps.own; made = c.args.desk.dumps.made }; last_site = c.args.desk.last_site } in
-    batch-served c.args.service.now c.args.desk before after c.requires.ready items c.as_slice.result.now c.as_slice.ensures done.replies.items lists done.stores.items c.in_ok-done.ensures.done counts c.in_ok-done.ensures.counted
-    later last refl refl refl refl refl c.requires.ready.desk.site c.requires.within c.requires.named
-    (subst (λ l. WritesAll before after (replies_text l done.replies.items) lines) c.as_slice-2.ensures c.in_ok-tell_batch.ensures)
+    let later : Desk = record { stores = done.stores; counts = c.in_ok-counts.counts; dumps = record { last = Some last; own = c.args.desk.dumps.own; made = c.args.desk.dumps.made }; last_site = c.args.desk.last_site } in
+    batch-served c.args.service.now c.args.desk before after c.requires.ready items c.as_slice.result.now c.as_slice.ensures done.replies.items lists done.stores.items c.in_ok-done.ensures.done told.counts told.counted
+    later last told.same refl refl refl refl c.requires.ready.desk.site c.requires.within c.requires.named
+    (subst (λ l. WritesAll before after (replies_text l done.replies.items) lines) c.as_slice-2.ensures told.told)
