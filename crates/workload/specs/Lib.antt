@@ -1,3 +1,4 @@
 pub mod Draws
 pub mod Texts
 pub mod Workload
+pub mod inner

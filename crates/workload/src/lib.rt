@@ -24,15 +24,15 @@
 ghost use Rattle.std.specs.Prelude.{◌≤◌, IfOk};
 ghost use Rattle.workload.specs.Workload.{IsWork};
 
+mod drawn;
 mod draws;
 mod lines;
 mod read;
 mod texts;
 mod words;
 
+use crate::drawn::{drawn_design, drawn_items, drawn_netlist};
 use crate::draws::Draws;
-use crate::read::{items_in, joined, netlist_in, stimulus_in, timing_in};
-use crate::texts::{netlist_text, script_text, stimulus_text};
 use design::Design;
 use owned_text::OutOfMemory;
 use query_lines::ItemList;
@@ -51,10 +51,8 @@ pub fn workload(alloc: Global, number: u32) -> Result<Work, OutOfMemory>
     ensures { IfOk result (IsWork number) }
 {
     let mut draws = Draws::new(number);
-    let netlist = netlist_in(alloc, &netlist_text(alloc, &mut draws)?)?;
-    let timing = timing_in(alloc, b"default 1\n")?;
-    let stimulus = stimulus_in(alloc, &stimulus_text(alloc, &mut draws)?)?;
-    let design = joined(alloc, netlist, &timing, &stimulus)?;
-    let items = items_in(alloc, &script_text(alloc, &mut draws)?)?;
+    let netlist = drawn_netlist(alloc, &mut draws)?;
+    let design = drawn_design(alloc, netlist, &mut draws)?;
+    let items = drawn_items(alloc, &mut draws)?;
     Ok(Work { design, items })
 }
