@@ -1,7 +1,7 @@
 -- What reading one file after another changes.
-use Rattle.std.proofs.Common.{◌≡◌, ℕ, ◌+◌, ◌≤◌, List, Option, sym, subst, ap, ◌∙◌, arith}
+use Rattle.std.proofs.Common.{◌≡◌, ℕ, ◌+◌, ◌≤◌, List, Option, Result, Ok, Err, IfErr, sym, subst, ap, ◌∙◌, arith}
 use Rattle.backsim_io.specs.State.{FilesState, FileFault, Rises}
-use Rattle.circuit_files.specs.Changes.{Opened, OpenedThenMissing, OpenedThenUnread, StopChanges}
+use Rattle.circuit_files.specs.Changes.{Opened, OpenedThenMissing, OpenedThenUnread, StopChanges, DesignChanges}
 use Rattle.circuit_files.specs.Stops.{before, IsQuiet}
 use Rattle.circuit_files.specs.inner.Reading.{IsAt, TextStops}
 use Rattle.circuit_files.specs.declared.refusal.CircuitFile.{CircuitFile}
@@ -48,9 +48,13 @@ stop-later file first old new (Unread met) was at fault =
 stop-later file first old new OutOfMemory was at then =
     record { many = before file + 1; within = one-more file; opened = opened-later (before file) (before file + 1) first old new was then }
 
--- a stop that no fault made
-pub stop-quiet : (n : ℕ) (old new : FilesState) (stop : FilesStop) → n ≤ 3 → IsQuiet stop → Opened n old new → StopChanges old new stop
-stop-quiet n old new (Refused refusal) few quiet opened = record { many = n; within = few; opened = opened }
-stop-quiet n old new (NotOpened file) few quiet opened = absurd quiet
-stop-quiet n old new (Unread file) few quiet opened = absurd quiet
-stop-quiet n old new OutOfMemory few quiet opened = record { many = n; within = few; opened = opened }
+-- all three were read, and what followed met no fault
+stop-quiet : (old new : FilesState) (stop : FilesStop) → IsQuiet stop → Opened 3 old new → StopChanges old new stop
+stop-quiet old new (Refused refusal) quiet opened = record { many = 3; within = omega arith; opened = opened }
+stop-quiet old new (NotOpened file) quiet opened = absurd quiet
+stop-quiet old new (Unread file) quiet opened = absurd quiet
+stop-quiet old new OutOfMemory quiet opened = record { many = 3; within = omega arith; opened = opened }
+
+pub joined-state : {A : Type 0} (old new : FilesState) (result : Result A FilesStop) → IfErr result IsQuiet → Opened 3 old new → DesignChanges old new result
+joined-state old new (Ok design) quiet opened = opened
+joined-state old new (Err stop) quiet opened = stop-quiet old new stop quiet opened

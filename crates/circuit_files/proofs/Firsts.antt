@@ -8,7 +8,7 @@ use Rattle.circuit_files.specs.declared.refusal.FileRefusal.{FileRefusal}
 use Rattle.circuit_files.specs.declared.stop.FilesStop.{FilesStop}
 use Rattle.circuit_files.specs.declared.stop.FilesStop.TheVariants.{Refused, NotOpened, Unread, OutOfMemory}
 use Rattle.circuit_files.specs.Files.{netlist_of, delays_of, first_two}
-use Rattle.circuit_files.specs.Stops.{before, IsAnswerOf, AnswersFirst, IsQuiet}
+use Rattle.circuit_files.specs.Stops.{before, IsAnswerOf, AnswersFirst}
 use Rattle.circuit_files.specs.inner.Reading.{IsAt}
 
 -- what is not refused asks nothing
@@ -26,14 +26,6 @@ stops_first n started file (Unread met) (Ok b) early opened at is = tt
 stops_first n started file (Unread met) (Err given) early opened at is = subst (λ (f : CircuitFile). before f < n) (sym at) early
 stops_first n started file OutOfMemory (Ok b) early opened at is = tt
 stops_first n started file OutOfMemory (Err given) early opened at is = omega (arith, early, opened)
-
-pub quiet_first : {B : Type 0} (n started : ℕ) (stop : FilesStop) (said : Result B FileRefusal) → started ≤ n → IsQuiet stop → IsAnswerOf {A = B} (Err stop) said → AnswersFirst {A = Joined} n started (Err stop) said
-quiet_first n started (Refused refusal) (Ok b) few quiet is = tt
-quiet_first n started (Refused refusal) (Err given) few quiet is = (let same : given ≡ refusal = cc in sym same, few)
-quiet_first n started (NotOpened met) said few quiet is = absurd quiet
-quiet_first n started (Unread met) said few quiet is = absurd quiet
-quiet_first n started OutOfMemory (Ok b) few quiet is = tt
-quiet_first n started OutOfMemory (Err given) few quiet is = few
 
 -- both files
 pub two_stop : (a b : List ℕ) (stop : FilesStop) → IsAnswerOf {A = netlists.Content} (Err stop) (netlist_of a) → IsAnswerOf {A = timings.Content} (Err stop) (first_two a b)

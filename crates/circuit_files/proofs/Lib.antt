@@ -1,3 +1,5 @@
 pub mod Changed
+pub mod Contents
 pub mod Designed
 pub mod Firsts
+pub mod WaysOut

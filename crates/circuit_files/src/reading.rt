@@ -2,19 +2,20 @@
 
 ghost use Rattle.std.specs.Prelude.{◌≡◌, ◌≤◌, ◌+◌, List, ℕ, Some, IfErr, IfOk, vec_len};
 ghost use Rattle.backsim_io.specs.FilesInMemory.{SameMade};
+ghost use Rattle.design.specs.Join.{design_of};
 ghost use Rattle.circuit_files.specs.Changes.{DesignChanges};
-ghost use Rattle.circuit_files.specs.Files.{netlist_of, first_two, design_of_files, within_limit};
-ghost use Rattle.circuit_files.specs.Stops.{before, IsAnswerOf, AnswersFirst};
-ghost use Rattle.circuit_files.specs.inner.Reading.{AnswersText, IsAt, TextChanges};
+ghost use Rattle.circuit_files.specs.Files.{netlist_of, delays_of, settings_of, first_two, design_of_files, or_refusal, refused_join, within_limit};
+ghost use Rattle.circuit_files.specs.Stops.{before, IsAnswerOf, AnswersFirst, IsQuiet};
+ghost use Rattle.circuit_files.specs.inner.Reading.{AnswersText, IsAt, ReadsContent, TextChanges};
 
 use crate::refusal::{CircuitFile, FileRefusal};
 use crate::stop::FilesStop;
 use backsim_io::{Files, ReadFile, read_file};
-use bench_reader::read_bench;
+use bench_reader::{Netlist, read_bench};
 use design::Design;
 use std::alloc::Global;
-use stimulus_file::read_stimulus;
-use timing_file::read_timing;
+use stimulus_file::{Stimulus, read_stimulus};
+use timing_file::{Timing, read_timing};
 
 const FILE_LIMIT: u32 = 67_108_864;
 
@@ -42,19 +43,57 @@ pub fn read_design<F: Files>(
     ensures state { DesignChanges (F.state files.old) (F.state files.new) result }
     ensures made { SameMade (F.made files.old) (F.made files.new) }
 {
-    let netlist = read_bench(
-        alloc,
-        &read_text(alloc, files, netlist, CircuitFile::Netlist)?,
-    )?;
-    let timing = read_timing(
-        alloc,
-        &read_text(alloc, files, timing, CircuitFile::Timing)?,
-    )?;
-    let stimulus = read_stimulus(
-        alloc,
-        &read_text(alloc, files, stimulus, CircuitFile::Stimulus)?,
-    )?;
-    Ok(Design::join(alloc, netlist, &timing, &stimulus)?)
+    let netlist = read_netlist(alloc, files, netlist)?;
+    let timing = read_delays(alloc, files, timing)?;
+    let stimulus = read_settings(alloc, files, stimulus)?;
+    join_contents(alloc, netlist, &timing, &stimulus)
+}
+
+/// Reads and parses the netlist, before the other files.
+fn read_netlist<F: Files>(alloc: Global, files: &mut F, name: &str) -> Result<Netlist, FilesStop>
+    requires { (F.state files.old).started ≡ before CircuitFile.Netlist }
+    ensures reads { ReadsContent CircuitFile.Netlist name.now netlist_of
+        (F.state files.old) (F.state files.new) result }
+    ensures made { SameMade (F.made files.old) (F.made files.new) }
+{
+    let text = read_text(alloc, files, name, CircuitFile::Netlist)?;
+    Ok(read_bench(alloc, &text)?)
+}
+
+/// Reads and parses the timing file, after the netlist.
+fn read_delays<F: Files>(alloc: Global, files: &mut F, name: &str) -> Result<Timing, FilesStop>
+    requires { (F.state files.old).started ≡ before CircuitFile.Timing }
+    ensures reads { ReadsContent CircuitFile.Timing name.now delays_of
+        (F.state files.old) (F.state files.new) result }
+    ensures made { SameMade (F.made files.old) (F.made files.new) }
+{
+    let text = read_text(alloc, files, name, CircuitFile::Timing)?;
+    Ok(read_timing(alloc, &text)?)
+}
+
+/// Reads and parses the stimulus, after the two others.
+fn read_settings<F: Files>(alloc: Global, files: &mut F, name: &str) -> Result<Stimulus, FilesStop>
+    requires { (F.state files.old).started ≡ before CircuitFile.Stimulus }
+    ensures reads { ReadsContent CircuitFile.Stimulus name.now settings_of
+        (F.state files.old) (F.state files.new) result }
+    ensures made { SameMade (F.made files.old) (F.made files.new) }
+{
+    let text = read_text(alloc, files, name, CircuitFile::Stimulus)?;
+    Ok(read_stimulus(alloc, &text)?)
+}
+
+/// Joins what the three files hold, or tells the refusal of the first row that does not join.
+fn join_contents(
+    alloc: Global,
+    netlist: Netlist,
+    timing: &Timing,
+    stimulus: &Stimulus,
+) -> Result<Design, FilesStop>
+    ensures answer { IsAnswerOf result
+        (or_refusal refused_join (design_of netlist timing.now stimulus.now)) }
+    ensures quiet { IfErr result IsQuiet }
+{
+    Ok(Design::join(alloc, netlist, timing, stimulus)?)
 }
 
 /// Reads one of the three files when it is its turn.

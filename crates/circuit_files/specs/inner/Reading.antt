@@ -1,5 +1,5 @@
 -- Definitions for proofs and private functions.
-use Rattle.std.specs.Prelude.{◌≡◌, ◌+◌, ⊤, List, ℕ, Result, Ok, Err}
+use Rattle.std.specs.Prelude.{◌≡◌, ◌+◌, ◌≤◌, ⊤, List, ℕ, Some, Result, Ok, Err, IfErr}
 use Rattle.backsim_io.specs.State.{FilesState, FileFault}
 use Rattle.circuit_files.specs.Changes.{Opened, OpenedThenUnread}
 use Rattle.circuit_files.specs.Stops.{before, IsAnswerOf}
@@ -30,3 +30,11 @@ TextStops file old new OutOfMemory = Opened (before file + 1) old new
 abbrev pub TextChanges : {T : Type 0} → CircuitFile → FilesState → FilesState → Result T FilesStop → Type 0
 TextChanges file old new (Ok text) = Opened (before file + 1) old new
 TextChanges file old new (Err stop) = TextStops file old new stop
+
+-- What reading one of the files and parsing it comes to: its content, or its refusal, unless a fault at this file or a lack of memory came
+-- before.
+pub record ReadsContent {A : Type 0} (file : CircuitFile) (name : List ℕ) (content_of : List ℕ → Result A FileRefusal) (old new : FilesState) (result : Result A FilesStop) : Type 0 where
+  pub content : (bytes : List ℕ) → old.bytes name ≡ Some bytes → IsAnswerOf result (content_of bytes)
+  pub place : IfErr result (IsAt file)
+  pub started : new.started ≤ before file + 1
+  pub state : TextChanges file old new result
