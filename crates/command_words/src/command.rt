@@ -2,7 +2,7 @@
 
 ghost use Rattle.std.specs.Prelude.{◌≡◌, IfOk, map, false};
 ghost use Rattle.clap.specs.Words.{app_of, rule_of, with_rule, FailsBy, fault_of, matches_of, found_of, rows_of};
-ghost use Rattle.command_words.specs.inner.Command.{option_rule, names_rule, empty_app, command_app};
+ghost use Rattle.command_words.specs.inner.Command.{option_rule, names_rule, empty_app, session_app, command_app};
 
 use clap::{Arg, ArgAction, ArgMatches, Command, Error};
 use std::alloc::{AllocError, Global};
@@ -31,22 +31,32 @@ fn empty<'a>(alloc: Global) -> Command<'a>
         .disable_help_flag(true)
 }
 
-/// The command with one more argument, which is not global.
-fn with<'a>(command: Command<'a>, arg: Arg<'a>) -> Result<Command<'a>, AllocError>
-    requires { arg.global ≡ false }
-    ensures { IfOk result (λ c. app_of c ≡ with_rule (app_of command.entry) (rule_of arg.entry)) }
+/// The command with one more option.
+fn with_option<'a>(
+    alloc: Global,
+    command: Command<'a>,
+    name: &'a str,
+) -> Result<Command<'a>, AllocError>
+    ensures { IfOk result (λ c. app_of c ≡ with_rule (app_of command.entry)
+        (option_rule name.entry.now)) }
 {
-    command.arg(arg)
+    command.arg(option(alloc, name))
+}
+
+/// The command with the options of a session.
+fn with_sizes<'a>(alloc: Global) -> Result<Command<'a>, AllocError>
+    ensures { IfOk result (λ c. app_of c ≡ session_app) }
+{
+    let command = with_option(alloc, empty(alloc), "workers")?;
+    let command = with_option(alloc, command, "shards")?;
+    with_option(alloc, command, "cells")
 }
 
 fn command<'a>(alloc: Global) -> Result<Command<'a>, AllocError>
     ensures { IfOk result (λ c. app_of c ≡ command_app) }
 {
-    let command = with(empty(alloc), option(alloc, "workers"))?;
-    let command = with(command, option(alloc, "shards"))?;
-    let command = with(command, option(alloc, "cells"))?;
-    let command = with(command, option(alloc, "work"))?;
-    Ok(with(command, names(alloc))?)
+    let command = with_option(alloc, with_sizes(alloc)?, "work")?;
+    command.arg(names(alloc))
 }
 
 /// What the words say, as texts.

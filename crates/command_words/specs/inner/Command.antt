@@ -13,7 +13,8 @@ names_rule = record (new_rule (codes "names")) { action = Some Append }
 abbrev pub empty_app : App
 empty_app = on_top (λ s. record s { no_binary_name = true; disable_help_flag = true }) (new_app (codes "backsim"))
 
+abbrev pub session_app : App
+session_app = with_rule (with_rule (with_rule empty_app (option_rule (codes "workers"))) (option_rule (codes "shards"))) (option_rule (codes "cells"))
+
 abbrev pub command_app : App
-command_app = with_rule (with_rule (with_rule (with_rule (with_rule empty_app
-    (option_rule (codes "workers"))) (option_rule (codes "shards"))) (option_rule (codes "cells"))) (option_rule (codes "work")))
-    names_rule
+command_app = with_rule (with_rule session_app (option_rule (codes "work"))) names_rule
