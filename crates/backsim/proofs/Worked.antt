@@ -1,5 +1,5 @@
 -- What a run of the workload comes to.
-use Rattle.std.proofs.Common.{◌≡◌, ℕ, ◌+◌, inl, inr, List, [], ◌∷◌, All, refl, ap, subst, lit≤, ◌∙◌}
+use Rattle.std.proofs.Common.{◌≡◌, ℕ, ◌+◌, inl, inr, List, [], ◌∷◌, All, refl, ap, subst, sym, lit≤, ◌∙◌}
 use Rattle.std.proofs.lemmas.List.Elements.{All-head}
 use Rattle.owned_text.specs.Made.{Made}
 use Rattle.backsim_io.specs.Counts.{Rose, Grows}
@@ -23,7 +23,7 @@ use Rattle.backsim.specs.Cause.{Explains}
 use Rattle.backsim.specs.Seen.{Seen, files_in}
 use Rattle.backsim.specs.Serves.{ServesWorkload}
 use Rattle.backsim.specs.inner.Statuses.{of_work}
-use Rattle.backsim.specs.inner.Work.{of_line, IsLineCut}
+use Rattle.backsim.specs.inner.Work.{of_line, IsLineCut, EndsWork}
 use Rattle.backsim.specs.Work.{setup_of_work, work_line, IsWorkServed, LeavesWork}
 use Rattle.backsim.specs.declared.work.LineStop.{LineStop}
 use Rattle.backsim.specs.declared.work.LineStop.TheVariants as lines
@@ -113,6 +113,17 @@ module _ (number : ℕ) (work : Work) (name : Text) (replies : List Reply) (is :
         let started = ap (λ (s : FilesState). s.started) fault.same ∙ ap (λ (s : FilesState). s.started) begun in
         work-other number name before (after new) (FileFault named.Journal) (λ e. cc)
         (subst (λ (s : FilesState). Rose s.file_faults new.file_faults) begun fault.rises.1, started ∙ none) (inr served) started
+
+  -- each way in which it ends
+  pub work-ends : (new : FilesState) (status : Status) → old.created ≡ 0 → Places old.created old.unfinished → EndsWork (work_line number replies) mid new n w n' w' status
+      → ServesWorkload number name before (after new) status
+  work-ends new status created places (inl (stop, told, same, cut)) =
+      subst (ServesWorkload number name before (after new)) (sym told)
+      (subst (λ files. ServesWorkload number name before (after files) (of_line stop)) (sym same) (line-untold stop cut))
+  work-ends new status created places (inr (same, line, inl (is, ends))) =
+      subst (ServesWorkload number name before (after new)) (sym is) (work-done same line new created places ends)
+  work-ends new status created places (inr (same, line, inr (is, fault))) =
+      subst (ServesWorkload number name before (after new)) (sym is) (work-unfinished same line new fault)
 
 -- The session of the batch halted.
 pub work-halted : (number : ℕ) (work : Work) (name : Text) (is : IsWork number work) (script : SourceState) (n : ℕ) (w : List ℕ → Type 0) (m m' : List Made → Type 0) (old new : FilesState) (halt : JournalHalt)

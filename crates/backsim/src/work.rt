@@ -1,20 +1,26 @@
 //! A run of the workload, from its number to the status.
 
-ghost use Rattle.std.specs.Prelude.{◌≡◌, ◌<◌, ◌≤◌, IfOk, IfSome, filter, length, string_bytes};
+ghost use Rattle.std.specs.Prelude.{◌≡◌, ◌<◌, ◌≤◌, Contains, IfErr, IfOk, IfSome, filter, length, string_bytes};
+ghost use Rattle.backsim_io.specs.FilesInMemory.{SameMade};
 ghost use Rattle.backsim_io.specs.State.{SourceState};
+ghost use Rattle.session_loop.specs.Halting as session;
+ghost use Rattle.session_loop.specs.Halting.{WroteJournal, IsWorkHalted};
+ghost use Rattle.session_loop.specs.Outside.{JournalChanges};
+ghost use Rattle.workload.specs.Workload.{IsWork};
 ghost use Rattle.backsim.specs.Serves.{ServesWorkload};
 ghost use Rattle.backsim.specs.Seen.{seen_of};
 ghost use Rattle.backsim.specs.Work as work;
-ghost use Rattle.backsim.specs.Work.{counts_line, work_line, runs_in};
-ghost use Rattle.backsim.specs.inner.Work.{IsLineTold, of_line};
+ghost use Rattle.backsim.specs.Work.{counts_line, work_line, runs_in, setup_of_work};
+ghost use Rattle.backsim.specs.inner.Work.{EndsWork, IsLineTold, of_line};
 ghost use Rattle.backsim.specs.declared.work.LineStop.TheVariants.{OutOfMemory as out_of_memory};
 
 use crate::status::{NamedFile, Output, Status};
 use backsim_io::{Files, Sink, write_all};
 use gate_values::Value;
+use owned_text::OutOfMemory;
 use query_lines::script_units_are_fit;
 use reply_lines::{Outcome, Reply};
-use session_loop::{Service, finish_journal, serve_work};
+use session_loop::{JournalHalt, Service, finish_journal, serve_work};
 use std::alloc::{AllocError, Global};
 use std::mem;
 use std::sync::Wait;
@@ -22,7 +28,7 @@ use std::thread::Threads;
 use unit_answers::Sizes;
 use window_walks::Run;
 use worker_gate::{Gate, Workers};
-use workload::workload;
+use workload::{Work, workload};
 
 /// The horizon of every workload. That its stimulus text names it isn't proved, so it is looked at.
 const HORIZON: u32 = 100_000;
@@ -83,19 +89,53 @@ pub fn serve_workload<F: Files, S: Sink, G: Gate, R: Threads + Wait + Sync>(
         (seen_of (F.state files.new) (F.made files.new) script (S.faults out.new) (S.written out.new))
         result }
 {
-    let Workload {
-        number,
-        journal,
-        workers,
-    } = *asked;
-    let Ok(work) = workload(alloc, number) else {
+    let Ok(work) = drawn_work(alloc, asked.number) else {
         return Status::OutOfMemory;
     };
+    let status = match answer_work(rt, alloc, asked, &work, files, gate) {
+        Ok(replies) => end_work(alloc, asked.number, &replies, files, out),
+        Err(halt) => Status::from(halt),
+    };
+    // its memory goes with the process
+    mem::forget(work);
+    status
+}
+
+/// The workload with this number, if there is memory for it and its horizon is that of every workload.
+fn drawn_work(alloc: Global, number: u32) -> Result<Work, OutOfMemory>
+    requires { number ≤ 2147483647 }
+    ensures work { IfOk result (IsWork number) }
+    ensures horizon { IfOk result (λ work. work.design.circuit.horizon ≡ 100000) }
+{
+    let work = workload(alloc, number)?;
     if work.design.horizon() != HORIZON {
-        return Status::OutOfMemory;
+        return Err(OutOfMemory);
     }
+    Ok(work)
+}
+
+/// Answers the items of a workload as one batch, and hands back the replies. The journal is left to be finished.
+fn answer_work<F: Files, G: Gate, R: Threads + Wait + Sync>(
+    rt: &R,
+    alloc: Global,
+    asked: &Workload<'_>,
+    work: &Work,
+    files: &mut F,
+    gate: &G,
+) -> Result<Vec<Reply>, JournalHalt>
+    requires work { IsWork asked.now.number work.now }
+    requires horizon { work.now.design.circuit.horizon ≡ 100000 }
+    requires created { (F.state files.old).created ≡ 0 }
+    requires workers { (0 < asked.now.workers) × (asked.now.workers ≤ 64) }
+    ensures worked { IfOk result (λ replies. WroteJournal
+        (session.IsWork (setup_of_work work.now) work.now.items replies.items) asked.now.journal.now
+        (F.made files.old) (F.made files.new)) }
+    ensures halted { IfErr result (IsWorkHalted (setup_of_work work.now) work.now.items
+        asked.now.journal.now (F.made files.old) (F.made files.new)) }
+    ensures state { JournalChanges (F.state files.old) (F.state files.new) result }
+{
     script_units_are_fit();
-    let crew = Workers::new(rt, gate, workers);
+    let crew = Workers::new(rt, gate, asked.workers);
     let sizes = Sizes {
         shards: 8,
         cells: 16_384,
@@ -105,20 +145,32 @@ pub fn serve_workload<F: Files, S: Sink, G: Gate, R: Threads + Wait + Sync>(
         design: &work.design,
         sizes,
     };
-    match serve_work(&crew, &service, work.items.as_slice(), journal, files) {
-        Ok(done) => {
-            // their memory goes with the process
-            mem::forget(work);
-            mem::forget(done.stores);
-            match tell_counts(alloc, number, &done.replies, out) {
-                Ok(()) => match finish_journal(files) {
-                    Ok(()) => Status::Ended,
-                    Err(_) => Status::FileFault(NamedFile::Journal),
-                },
-                Err(stop) => Status::from(stop),
-            }
-        }
-        Err(halt) => Status::from(halt),
+    let items = work.items.as_slice();
+    let done = serve_work(&crew, &service, items, asked.journal, files)?;
+    // their memory goes with the process
+    mem::forget(done.stores);
+    Ok(done.replies)
+}
+
+/// Writes the line that counts the replies, and then finishes the journal.
+fn end_work<F: Files, S: Sink>(
+    alloc: Global,
+    number: u32,
+    replies: &[Reply],
+    files: &mut F,
+    out: &mut S,
+) -> Status
+    requires unfinished { Contains (F.state files.old).unfinished 0 }
+    ensures made { SameMade (F.made files.old) (F.made files.new) }
+    ensures ends { EndsWork (work_line number replies.now) (F.state files.old) (F.state files.new)
+        (S.faults out.old) (S.written out.old) (S.faults out.new) (S.written out.new) result }
+{
+    match tell_counts(alloc, number, replies, out) {
+        Ok(()) => match finish_journal(files) {
+            Ok(()) => Status::Ended,
+            Err(_) => Status::FileFault(NamedFile::Journal),
+        },
+        Err(stop) => Status::from(stop),
     }
 }
 
