@@ -1,8 +1,7 @@
-use Rattle.std.proofs.Common.{◌≡◌, sym}
+use Rattle.std.proofs.Common.{sym}
 use Rattle.session_loop.specs.Halting.{IsWork}
-use Rattle.session_loop.proofs.Changes.{journal-open}
 use Rattle.backsim.specs.Work.{setup_of_work}
-use Rattle.backsim.proofs.Worked.{recorded-same, work-ends, work-halted, no-work}
+use Rattle.backsim.proofs.Worked.{recorded-same, work-ends, work-halted}
 use Rattle.backsim.proofs.work.serve_workload.Goals as goal
 use Rattle.backsim.proofs.work.serve_workload.Goals.{in-Ok-answer_work, in-Err}
 
