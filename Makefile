@@ -3,7 +3,7 @@
 #     make                    the programs, which are built and proved where dist/ has none of these sources
 #     make test               all that can be seen without proving, over the programs that are there; in minutes
 #     make setup              installs Debian's packages that the tests need, by apt-get
-#     make check              the gate: every proof, test and check; it needs rt of the Rattle kit on PATH, and hours from nothing
+#     make check              the gate: every proof, test and check; it needs rt of the Rattle kit on PATH, and from nothing an hour of four processors
 #     make install            programs, tools, pages, completion and documents into PREFIX, /usr/local where it is not given, below DESTDIR,
 #                             which is empty where it is not given
 #     make uninstall          removes what make install made, with the same PREFIX and DESTDIR

@@ -13,7 +13,7 @@ from pathlib import Path
 from typing import Any
 
 NAMES = ("chromium", "chromium-browser", "google-chrome", "google-chrome-stable", "chrome")
-PATIENCE = 90.0
+PATIENCE = 300.0
 # The contrast of each text with its ground, by the formula of the Web Content Accessibility Guidelines, which want 4.5 at least.
 CONTRASTS = """(() => {
   const part = (v) => { v /= 255; return v <= 0.03928 ? v / 12.92 : ((v + 0.055) / 1.055) ** 2.4; };
@@ -42,7 +42,8 @@ class Browser:
         self._home = tempfile.mkdtemp(prefix="browser")
         to_read, self._to = os.pipe()
         self._from, from_write = os.pipe()
-        words = [path, "--headless", "--no-sandbox", "--disable-gpu", "--disable-dev-shm-usage", "--remote-debugging-pipe",
+        # else clicks and keys are passed over as long as nothing of a new page was drawn
+        words = [path, "--headless", "--no-sandbox", "--disable-gpu", "--disable-dev-shm-usage", "--remote-debugging-pipe", "--allow-pre-commit-input",
                  f"--user-data-dir={self._home}", f"--window-size={width},{height}", "--hide-scrollbars", "about:blank"]
         # the browser reads from 3 and writes to 4
         self._process = subprocess.Popen(["bash", "-c", f'exec "$@" 3<&{to_read} 4>&{from_write}', "bash", *words],
@@ -103,12 +104,14 @@ class Browser:
 
     def open(self, path: Path, fragment: str = "") -> None:
         """Opens a file, and waits until its script has run."""
-        self.call("Page.navigate", url=path.as_uri() + fragment)
+        self.visit(path.as_uri() + fragment)
         self.wait("document.readyState === 'complete' && document.querySelector('h2').textContent !== ''")
 
     def visit(self, address: str) -> None:
-        """Opens an address."""
+        """Opens an address, and waits until the page before has gone: the protocol may answer before that."""
+        self.value("window.isLeft = true")
         self.call("Page.navigate", url=address)
+        self.wait("window.isLeft === undefined")
 
     def value(self, script: str) -> Any:
         """The value of an expression in the page; of a promise that which it comes to."""

@@ -1,18 +1,25 @@
 """The prompt: what lines are answered, off a terminal and on one."""
 from __future__ import annotations
 
+import fcntl
 import os
 import pty
 import select
 import subprocess
 import sys
+import termios
 import time
+from collections.abc import Callable, Iterator, Sequence
+from contextlib import contextmanager
+from pathlib import Path
 
 import pytest
 from backsim.errors import UsageError
 from backsim.prompting.complete import Names, completed
 from backsim.prompting.lines import Asked, asked_by, time_in, value_in
 from conftest import TOP
+from processes import PATIENCE
+from view_page import ring
 
 
 def test_answers_to_lines(example, program, tools) -> None:
@@ -71,28 +78,36 @@ def test_names_are_completed() -> None:
     assert completed(many, "at u", 3, "u") == sorted(f"u{place}." for place in range(30))
 
 
-@pytest.fixture
-def terminal(example, program, tmp_path):
-    """A prompt on a terminal: `typed` types keys and gives what is shown until a text comes, and behind a line the next prompt."""
+@contextmanager
+def prompted(files: Sequence[object], program: str, state: Path) -> Iterator[tuple[Callable[[str, str], str], subprocess.Popen[bytes]]]:
+    """A prompt on a terminal of its own: `typed` types keys and gives what is shown until a text comes, and behind a line the next prompt."""
     main, side = pty.openpty()
-    environment = os.environ | {"PYTHONPATH": str(TOP / "python"), "XDG_STATE_HOME": str(tmp_path), "TERM": "dumb"}
-    process = subprocess.Popen([sys.executable, "-m", "backsim", "ask", *example("from_verilog"), "--program", program], stdin=side, stdout=side,
-                               stderr=side, env=environment, start_new_session=True)
+    environment = os.environ | {"PYTHONPATH": str(TOP / "python"), "XDG_STATE_HOME": str(state), "TERM": "dumb"}
+    process = subprocess.Popen([sys.executable, "-m", "backsim", "ask", *map(str, files), "--program", program], stdin=side, stdout=side, stderr=side,
+                               env=environment, start_new_session=True, preexec_fn=lambda: fcntl.ioctl(0, termios.TIOCSCTTY, 0))
     os.close(side)
 
     def typed(keys: str, until: str) -> str:
         os.write(main, keys.encode())
-        shown, ends = "", time.monotonic() + 60
+        shown, ends = "", time.monotonic() + PATIENCE
         while until not in shown or keys.endswith("\n") and "> " not in shown.rpartition(until)[2]:
             assert time.monotonic() < ends, f"{until!r} does not come, but {shown!r}"
             if select.select([main], [], [], 1)[0]:
                 shown += os.read(main, 4096).decode()
         return shown
 
-    yield typed, process
-    process.kill()
-    process.wait()
-    os.close(main)
+    try:
+        yield typed, process
+    finally:
+        process.kill()
+        process.wait()
+        os.close(main)
+
+
+@pytest.fixture
+def terminal(example, program, tmp_path):
+    with prompted(example("from_verilog"), program, tmp_path) as found:
+        yield found
 
 
 def test_a_terminal(terminal, tmp_path) -> None:
@@ -108,8 +123,23 @@ def test_a_terminal(terminal, tmp_path) -> None:
     assert "watch.meter[0] = 0" in typed("\x10\n", "watch.meter[0] = ")
     assert "there is no signal G98" in typed("G98 1\n", "no signal G98")
     typed("\x04", "\n")
-    assert process.wait(60) == 0
+    assert process.wait(PATIENCE) == 0
     assert "valid 4" in (tmp_path / "backsim" / "history").read_text().splitlines()
+
+
+def test_ctrl_c_gives_an_answer_up_wherever_it_is(write, program, tmp_path) -> None:
+    """The answer takes the program some time, and then the command some more to explain it; Ctrl-C on a terminal reaches both."""
+    pytest.importorskip("readline", reason="this Python has no readline")
+    with prompted(ring(write), program, tmp_path) as (typed, process):
+        typed("", "> ")
+        # the stops go from the first question of the program to the last line of the explanation
+        said = ""
+        for wait in (0.0, 0.3, 0.7, 1.1, 1.5):
+            typed("why r0 99900\r", "\n")
+            time.sleep(wait)
+            said += typed("\x03", "> ")
+            assert "r0 = 0" in typed("r0 0\n", "r0 = "), wait
+        assert "given up" in said and process.poll() is None
 
 
 def test_a_signal_is_answered_before_the_netlist_is_read(example, program, monkeypatch) -> None:

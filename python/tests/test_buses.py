@@ -2,7 +2,7 @@
 from __future__ import annotations
 
 import pytest
-from backsim.circuit.buses import full_name, signals_of, written_number
+from backsim.circuit.buses import full_name, nearest, signals_of, written_number
 from backsim.errors import UsageError
 from backsim.main import main
 
@@ -25,6 +25,12 @@ def test_the_signals_of_a_name(name: str, signals: tuple[str, ...]) -> None:
 def test_a_bus_with_a_gap_is_told() -> None:
     with pytest.raises(UsageError, match=r"the bus gap\[2:0\] has no bit gap\[1\]"):
         full_name("gap", set(NAMES))
+
+
+@pytest.mark.parametrize("name, like", [("part.coun", ("part.count[2:0]",)), ("part.count[7]", ("part.count[2]", "part.count[1]", "part.count[0]")),
+                                        ("gaps", ("gap[0]",)), ("wid", ("wide",)), ("none", ())])
+def test_a_bus_is_named_once_among_what_is_like_a_name(name: str, like: tuple[str, ...]) -> None:
+    assert nearest(name, NAMES) == like
 
 
 def test_names_lists_signals(write, capsys) -> None:

@@ -15,6 +15,7 @@ from backsim.formats.proof import parse_proof
 from backsim.main import main
 from backsim.circuit.rules import read_design
 from backsim.session.session import Session
+from backsim.values import Budget
 from conftest import TOP
 from plain import Circuit
 
@@ -208,3 +209,17 @@ def test_the_graph_has_the_names(enabled, program) -> None:
 
 def test_the_shipped_pages_name_their_files() -> None:
     assert (TOP / "examples" / "from_verilog" / "from_verilog.bench").read_text().count("  # processor.v:") > 500
+
+
+def test_a_bus_of_which_a_bit_needs_more(write, program) -> None:
+    """q toggles at each second edge, so that q at t is that of n one before, which is the negation of q two before t: it needs a point for
+    each time, and y[1] at 60,000 more than the usual 50,000. It is what q was at 59,999, where 29,999 twos have passed."""
+    files = [write("n", "INPUT(a)\ny[2] = BUFF(a)\nn = NOT(q)\nq = DFF(n)\ny[1] = BUFF(q)\ny[0] = NOT(a)\n"), write("t", "clock 1 1\ninit q 0\n"),
+             write("s", "horizon 60000\nset a 0 1\n")]
+    with Session(*files, program=program) as session:
+        found = session.explain("y[2:0]", 60_000)
+        assert isinstance(found, Explanation) and found.value == "110" and found.spent == (50_000,)
+        assert {name for cause in found.causes for name in cause.names} == {"a", "q"}
+    # a budget that is given is all that there is
+    with Session(*files, program=program) as session:
+        assert session.explain("y[2:0]", 59_990, 100) == Budget("y[1]", 100)

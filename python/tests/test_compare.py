@@ -82,6 +82,34 @@ def test_a_window(compared, tmp_path) -> None:
     assert (tmp_path / "w").read_text().startswith("# unit 1 ns\nversion 2\nclock clk 25 20\n")
 
 
+def test_a_unit_finer_than_the_tick(write, program, tools) -> None:
+    """A tick of 1 ns is 100 units of 10 ps; gates take 20 ps, so all has settled before each edge, and in the window too."""
+    timing = write("t", TIMING.replace("unit 1 ns", "unit 10 ps").replace("clock clk 10 20", "clock clk 1000 2000").replace("default 1", "default 2"))
+    text = dump(["00", "01", "10", "10", "00"], "01110")
+    done = tools("compare", write("n", NETLIST), timing, write("d.vcd", text), "test", "--program", program)
+    # the third edge is at 5000, and its value is looked at before clk falls at 6000
+    assert done.stdout.decode().startswith("5999: q[1:0] is 11 here, and 10 in the dump; chip.v:7;"), done
+    assert done.stdout.decode().endswith("4 signals compared at 9 times; nets and buses that differ: 3\n")
+    done = tools("compare", write("n", NETLIST), timing, write("d.vcd", text), "test", "--from", "24.99ns", "--to", "65.01ns", "--program", program)
+    assert done.stdout.decode().startswith("3500, 5999 in the dump: q[1:0] is 11 here"), done
+
+
+def test_what_a_window_can_not_know_is_told_apart(write, program, tools) -> None:
+    """h is not dumped, so y is x in a window; of key, declared [0:1], the dump has bit 1 wrong. The flip-flops are those before the edge at
+    50, so 59, 69 and 75 are compared."""
+    netlist = "INPUT(clk)\nINPUT(a)\nh = DFF(h)\nq = DFF(a)\ny = XOR(h, q)\nkey[0] = BUFF(a)\nkey[1] = NOT(a)\n"
+    text = ("$timescale 1 ns $end\n$scope module test $end\n$var wire 1 ! clk $end\n$var wire 1 % a $end\n$var reg 1 & q $end\n$var wire 1 ) y $end\n"
+            "$var wire 2 + key [0:1] $end\n$upscope $end\n$enddefinitions $end\n#0\n0!\n1%\nx&\nx)\nb11 +\n#10\n1!\n#11\n1&\n1)\n")
+    text += "".join(f"#{20 * number}\n0!\n#{20 * number + 10}\n1!\n" for number in range(1, 4)) + "#89\n"
+    timing = "# unit 1 ns\nversion 2\nclock clk 10 20\ndefault 1\nclocked h clk\nclocked q clk\n"
+    words = [write("n", netlist), write("t", timing), write("d.vcd", text), "test", "--from", "25", "--to", "75", "--program", program]
+    done = tools("compare", *words)
+    assert (done.returncode, done.stdout.decode().splitlines()) == (1, [
+        "34, 59 in the dump: key[0:1] is 10 here, and 11 in the dump; what it is made of does not differ; why key[1] 34",
+        "x here, which may come of the flip-flops that are not dumped: y from 34 on", "4 signals compared at 3 times; nets and buses that differ: 1"])
+    assert "1 flip-flops are not dumped, and begin with x: h\n" in done.stderr.decode()
+
+
 def test_inputs_that_change_at_an_edge_are_said(write, program, tools) -> None:
     """a falls at 50, the third rise of clk; that clk itself falls at 20, 40 and so on is no matter."""
     text = dump().replace("#50\n1!\n", "#50\n1!\n0%\n")

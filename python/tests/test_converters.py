@@ -54,6 +54,24 @@ def test_the_replies_of_a_dump(capsys, netlist, vcd, write) -> None:
         "wave part.q 1 6\n1 x\n2 1\n4 0\nend\nat d[1] 2 1\nfirst part.q 0 0 7 4\nfirst e 1 0 7 none\nwave clk 3 3\nend\n")
 
 
+def test_a_unit_may_be_finer_than_a_tick(capsys, netlist, vcd, write) -> None:
+    """A tick is 1 ps, so 4 units; a window may begin and end between two ticks."""
+    words = ["from-vcd", netlist, vcd, "test.dut", "--unit", "250fs"]
+    assert told(capsys, *words) == (
+        "# unit 250 fs\nhorizon 240\nset clk 0 1\nset e 0 0\nset vdd 0 1\nset clk 40 0\nset clk 80 1\nset d[0] 80 0\nset d[1] 80 1\nset clk 120 0\nset e 120 z\n"
+        "set clk 160 1\n")
+    window, timing = ["--from", "12750fs", "--to", 118], write("t", "# unit 250 fs\nversion 2\nclock clk 80 80\ndefault 1\nclocked part.q clk\n")
+    # 12.75 ps are 51 units; the change at 120 is after the window's end, which is 67 units after its beginning
+    assert told(capsys, *words, *window, "--timing", timing, "--window", write("w", "")) == (
+        "# unit 250 fs\nhorizon 67\nset clk 0 0\nset e 0 0\nset vdd 0 1\nset clk 29 1\nset d[0] 29 0\nset d[1] 29 1\n")
+    script = write("script", "wave part.q 10 67\nat d[1] 28\nat d[1] 29\n")
+    assert told(capsys, *words, *window, "--script", script) == "wave part.q 10 67\n10 x\n29 1\nend\nat d[1] 28 x\nat d[1] 29 1\n"
+    assert "the dump ends at 240, before 241, where the window begins" in refused(capsys, *words, "--from", 241, "--script", script)
+    for unit, common in (("3fs", "1 fs"), ("1500fs", "500 fs"), ("600fs", "200 fs")):
+        assert f"a tick of it is 1 ps, and {unit[:-2]} fs is neither a multiple nor a divisor of that: {common} is a divisor of both" in refused(
+            capsys, "from-vcd", netlist, vcd, "test.dut", "--unit", unit)
+
+
 @pytest.mark.parametrize("words, cause", [
     (["test.dot"], "there is no scope test.dot; the scopes are: test, test.dut, test.dut.part"), (["test.dut", "--ticks", 15], "test.dut.clk changes at 10 ticks"),
     (["test"], "the input clk is not dumped in the scope test")])
@@ -156,11 +174,11 @@ def test_the_greatest_of_the_numbers(capsys, write) -> None:
     base = write("t", "version 2\ndefault NAND 9\npin 19 1 3\nclock 5 10\ndelay 16 4\n")
     assert main(["from-sdf", C17, str(path), "--timing", str(base)]) == 0
     said = capsys.readouterr()
-    # pin 0 of 10 has 3.5 and pin 1 has 4, both 4 when rounded up; of 11 the pins 3 and 6 are named by their nets
-    assert set(said.out.splitlines()) == {"# unit 10 ps", "version 2", "clock 5 10", "default NAND 9", "delay 10 4", "delay 11 7", "pin 11 0 5", "delay 16 1",
+    # pin 0 of 10 has 3.5 and pin 1 has 4, both 4 when rounded up; of 11 the pins 3, which has 5 + 1, and 6 are named by their nets
+    assert set(said.out.splitlines()) == {"# unit 10 ps", "version 2", "clock 5 10", "default NAND 9", "delay 10 4", "delay 11 7", "pin 11 0 6", "delay 16 1",
                                           "pin 19 1 3"}
     assert said.err.splitlines() == [
-        "left out: 1 INCREMENT, the first in line 9", "left out: 1 TIMINGCHECK, the first in line 11",
+        "left out: 1 TIMINGCHECK, the first in line 11",
         "left out: 1 IOPATH of an instance that is no gate of the netlist, the first in line 11",
         "left out: 1 INTERCONNECT, which needs the ports of cells (--json), the first in line 8", "1 delays of 0 or less are taken as 1",
         "3 of 6 gates have no delay of the file, and keep the one that they had"]

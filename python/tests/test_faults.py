@@ -114,7 +114,7 @@ def patterns(write):
     return write("patterns.txt", "".join(f"{pattern}\n" for pattern in PATTERNS))
 
 
-_PROGRESS = re.compile(rb"[0-9]+ of [0-9]+ [a-z]+, [0-9]+ s(, (some|at least) [0-9]+ s left)?\n")
+_PROGRESS = re.compile(rb"[0-9]+ of [0-9]+ [a-z]+, [0-9]+ s(, (some|at least) [0-9]+ s left|, [0-9]+ patterns tried)?\n")
 
 
 def without_progress(run: subprocess.CompletedProcess[bytes]) -> subprocess.CompletedProcess[bytes]:

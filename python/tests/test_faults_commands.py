@@ -3,14 +3,17 @@ from __future__ import annotations
 
 import os
 import random
+import re
 import signal
 import subprocess
 import sys
-import time
 
 import pytest
+from backsim.command_line import bars
+from backsim.main import main
 from conftest import TOP
 from forward_faults import Simulation, made_up
+from processes import PATIENCE, ticks_of, wait_while_running
 from test_faults import C17, PATTERNS, STAND_IN, outputs_of, without_progress
 from test_faults_search import LINES
 
@@ -111,6 +114,16 @@ def test_a_random_sequence_for_flip_flops(tools, tmp_path) -> None:
     assert shown > len(first) // 3 and len(words) - 1 in first.values()
 
 
+def test_a_search_tells_what_it_has_tried(write, tmp_path, monkeypatch, capsys) -> None:
+    """How many faults are shown says nothing of the time left: here 5 of 8 are at once, and no pattern shows the others."""
+    monkeypatch.setattr(bars, "_SECONDS_OF_LINES", 0.02)
+    words = [write("n", "INPUT(a)\nINPUT(b)\nOUTPUT(y)\nc = NOT(a)\nd = AND(a, c)\ny = OR(d, b)\n"), write("t", ""), "-o", tmp_path / "p"]
+    assert main(["patterns", *map(str, words), "--idle", "200000", "--most", "200000"]) == 1
+    *told, last = capsys.readouterr().err.splitlines()
+    tried = [re.fullmatch("[05] of 8 shown, [0-9]+ s, ([0-9]+) patterns tried", line) for line in told]
+    assert tried and all(tried) and last == f"{len((tmp_path / 'p').read_text().split())} patterns of 200000 show 5 of 8 faults, 62.50 %"
+
+
 @pytest.mark.parametrize("number", [signal.SIGINT, signal.SIGTERM])
 def test_patterns_of_an_interrupted_search_are_kept_and_marked(number, tools, tmp_path) -> None:
     # what no pattern can show keeps the search going
@@ -119,10 +132,10 @@ def test_patterns_of_an_interrupted_search_are_kept_and_marked(number, tools, tm
     words = ["patterns", *map(str, (tmp_path / "n", tmp_path / "t")), "--output", str(tmp_path / "p"), "--idle", "10000000", "--most", "10000000"]
     running = subprocess.Popen([sys.executable, "-m", "backsim", *words], env=os.environ | {"PYTHONPATH": str(TOP / "python")},
                                stdout=subprocess.PIPE, stderr=subprocess.PIPE, text=True)
-    time.sleep(5)
-    assert running.poll() is None
+    # of this processor time what comes before the search takes a part
+    wait_while_running(running, lambda: ticks_of(running.pid) >= 200, "the search goes on")
     running.send_signal(number)
-    out, err = running.communicate(timeout=60)
+    out, err = running.communicate(timeout=PATIENCE)
     assert (running.returncode, out) == (130, "") and "Traceback" not in err and " faults, " in err.splitlines()[-1]
     first, *kept = (tmp_path / "p").read_text().splitlines()
     assert first == "# partial: the command was interrupted"

@@ -8,7 +8,6 @@ import re
 import signal
 import subprocess
 import sys
-import time
 from pathlib import Path
 from types import ModuleType
 
@@ -20,6 +19,7 @@ from backsim.faults.plan import Plan
 from backsim.main import main
 from conftest import TOP
 from forward_faults import made_up
+from processes import PATIENCE, children_of, is_there, ticks_of, wait_while_running
 from test_faults import C17, GATES, PATTERNS, STAND_IN, outputs_of, without_progress
 
 LINES = ["1", "2", "3", "3->10", "3->11", "6", "7", "10", "11", "11->16", "11->19", "16", "16->22", "16->23", "19", "22", "23"]
@@ -243,17 +243,6 @@ def long_work(write):
             "--period", circuit.longest() + 2]
 
 
-def children_of(process: int) -> list[str]:
-    found = subprocess.run(["ps", "-o", "pid=", "--ppid", str(process)], capture_output=True, text=True)
-    return found.stdout.split()
-
-
-def ticks_of(process: int) -> int:
-    """The processor time that a process has had, in hundredths of a second."""
-    state = Path(f"/proc/{process}/stat").read_text().rpartition(")")[2].split()
-    return int(state[11]) + int(state[12])
-
-
 @pytest.mark.parametrize("number", [signal.SIGINT, signal.SIGTERM])
 def test_an_interrupt_leaves_what_is_known(number, long_work, tmp_path, program) -> None:
     files = {name: tmp_path / name for name in ("kept", "table", "shown", "left")}
@@ -261,18 +250,19 @@ def test_an_interrupt_leaves_what_is_known(number, long_work, tmp_path, program)
              "--left", str(files["left"]), "--jobs", "2"]
     environment = os.environ | {"PYTHONPATH": str(TOP / "python"), "BACKSIM": program}
     running = subprocess.Popen([sys.executable, "-m", "backsim", *words], env=environment, stdout=subprocess.PIPE, stderr=subprocess.PIPE, text=True)
-    until = time.monotonic() + 60
-    while time.monotonic() < until and (not files["kept"].exists() or files["kept"].read_text().count("\n") < 4):
-        assert running.poll() is None, running.stderr.read()
-        time.sleep(0.02)
+    wait_while_running(running, lambda: files["kept"].exists() and files["kept"].read_text().count("\n") >= 4, "some faults are proved")
+    children: list[int] = []
+
+    def are_two() -> bool:
+        children[:] = children_of(running.pid)
+        return len(children) == 2
+
     # one process may have ended, and the next not begun
-    while len(children := children_of(running.pid)) != 2 and time.monotonic() < until:
-        time.sleep(0.02)
-    assert len(children) == 2
+    wait_while_running(running, are_two, "two processes are asked")
     running.send_signal(number)
-    out, err = running.communicate(timeout=60)
+    out, err = running.communicate(timeout=PATIENCE)
     assert running.returncode == 130 and "Traceback" not in err
-    assert not any(Path(f"/proc/{child}").exists() for child in children)
+    assert not any(map(is_there, children))
     lines = out.splitlines()
     assert lines[0].startswith("partial: ")
     assert any(line.startswith("simulation alone says of ") for line in lines)
@@ -299,21 +289,15 @@ def test_an_interrupt_while_processes_simulate_leaves_what_is_known(number, writ
     # a process group of its own: a terminal sends what is typed to all processes of one
     running = subprocess.Popen([sys.executable, "-m", "backsim", "faults", *map(str, words)], env=environment, stdout=subprocess.PIPE,
                                stderr=subprocess.PIPE, text=True, start_new_session=True)
-    until = time.monotonic() + 300
-    children: list[str] = []
-    while len(children) < 3:
-        assert running.poll() is None and time.monotonic() < until, running.stderr.read()
-        time.sleep(0.02)
-        children = children_of(running.pid)
+    wait_while_running(running, lambda: len(children_of(running.pid)) == 3, "three processes simulate")
+    children = children_of(running.pid)
     # what is found is taken by the process that was started, which has nothing else to do now
     before = ticks_of(running.pid)
-    while ticks_of(running.pid) < before + 30:
-        assert running.poll() is None and time.monotonic() < until, "nothing is found"
-        time.sleep(0.02)
+    wait_while_running(running, lambda: ticks_of(running.pid) >= before + 30, "much is found")
     os.killpg(running.pid, number)
-    out, err = running.communicate(timeout=60)
+    out, err = running.communicate(timeout=PATIENCE)
     assert running.returncode == 130 and "Traceback" not in err
-    assert not any(Path(f"/proc/{child}").exists() for child in children)
+    assert not any(map(is_there, children))
     assert out.splitlines()[0].startswith("partial: ")
     mark = "# partial: the command was interrupted"
     shown, left = (files[name].read_text().splitlines() for name in ("shown", "left"))
@@ -326,14 +310,16 @@ def test_an_interrupt_while_processes_simulate_leaves_what_is_known(number, writ
 
 
 @pytest.mark.parametrize("words, cause", [
-    (["--drop", "0"], "from 1 to"), (["--transition", "--write", "folder"], "--write and --read are for stuck-at faults alone"),
+    (["--drop", "0"], "from 1 to"), (["--transition", "--read", "folder"], "--write and --read are for stuck-at faults alone"),
+    (["--write", "folder"], "--write and --csv do not go together"), (["--write-list", "list"], "--write-list and --csv do not go together"),
+    (["--read", "folder", "--dictionary", "rows"], "--read and --dictionary do not go together"),
     (["--list", "empty"], "the list has no fault"), (["--times", "99"], "the time 99 is after the horizon, 39")])
 def test_bad_words_are_said_in_one_line(words: list[str], cause: str, tools, patterns, tmp_path) -> None:
     (tmp_path / "empty").write_text("# nothing\n")
     table = tmp_path / "table"
     run = tools("faults", *C17, patterns, "--period", 10, "--csv", table, *words, cwd=tmp_path, env={"BACKSIM": STAND_IN})
     assert run.returncode == 2 and cause in run.stderr.decode() and run.stderr.count(b"\n") == 1 and run.stdout == b""
-    assert not table.exists()
+    assert not any((tmp_path / name).exists() for name in ("table", "folder", "list", "rows"))
 
 
 def test_patterns_of_another_number_of_inputs_are_refused(tools, write) -> None:

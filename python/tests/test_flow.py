@@ -8,10 +8,10 @@ import sys
 from pathlib import Path
 
 import pytest
-from backsim.convert.dump import Dump
+from backsim.convert.dump import Span, read_dump
 from backsim.circuit.kinds import Kind
 from backsim.formats.netlist import read_netlist
-from backsim.formats.vcd import read_vcd, value_at
+from backsim.formats.vcd import value_at
 from backsim.main import main
 from backsim.session.session import Session
 from backsim.values import Wave
@@ -68,7 +68,7 @@ def delayed(changes: list[tuple[int, str]]) -> list[tuple[int, str]]:
 
 def test_every_net_at_every_time_is_that_of_icarus(flow, program) -> None:
     late = with_sdf(flow, "chip")
-    dump = Dump(read_vcd(flow / "late.vcd"), "chip_test.dut", 10)
+    dump = read_dump(flow / "late.vcd", "chip_test.dut", Span(10))
     netlist = read_netlist(late[0])
     bits = dump.bits(netlist.names)
     # all but the gates and flip-flops within cells, which no dump has
@@ -83,7 +83,7 @@ def test_every_net_at_every_time_is_that_of_icarus(flow, program) -> None:
 
 def test_the_mapped_and_the_unmapped_netlist_settle_to_the_same(flow, program) -> None:
     """Before each edge every name that both have has the value of the source, without delays and with those of the SDF file."""
-    source = Dump(read_vcd(flow / "source.vcd"), "chip_test.dut", 10)
+    source = read_dump(flow / "source.vcd", "chip_test.dut", Span(10))
     files = [[str(flow / f"{name}.{kind}") for kind in ("bench", "timing", "stim")] for name in ("gates", "mapped")]
     names = [name for name in source.bits(read_netlist(files[0][0]).names) if name in read_netlist(files[1][0])]
     assert {"registers.r0[3]", "fifo.w2[1]", "fifo.count[0]", "steps[7]", "head[2]", "bus[0]", "carry"} <= set(names) and len(names) > 100

@@ -10,7 +10,7 @@ from backsim import FormatError
 from backsim.formats import causes
 from backsim.formats.journal import collect, events_of
 from backsim.formats.netlist import parse_netlist, write_netlist
-from backsim.formats.proof import parse_proof, write_proof
+from backsim.formats.proof import CellLines, parse_proof, write_proof
 from backsim.formats.replies import pairs, read_replies
 from backsim.formats.script import Go, parse_script, units, write_script
 from backsim.formats.stimulus import check_stimulus, parse_stimulus, write_stimulus
@@ -135,3 +135,12 @@ def test_texts_that_are_no_proof(text: bytes, line: int) -> None:
 def test_a_proof_is_written_as_it_was_read() -> None:
     text = b"why a 3 1\ncell 0 1 4 0\ncell 7 2 5 x\nend\n"
     assert _written(write_proof, parse_proof(text, "proof")) == text
+
+
+def test_lines_that_proofs_have_in_common_are_one_cell() -> None:
+    lines = CellLines()
+    first, second = lines.cells_of(b"cell 0 1 2 x\ncell 3 1 4294967295 1\n"), lines.cells_of(b"cell 3 1 4294967295 1\n")
+    assert first == parse_proof(b"why a 1 1\ncell 0 1 2 x\ncell 3 1 4294967295 1\nend\n", "proof").cells
+    assert first is not None and second is not None and first[1] is second[0] and lines.cells_of(b"") == ()
+    for bad in (b"cell 0 1 2 x", b"cell 0 1 2 X\n", b"cell 00 1 2 x\n", b"cell 0 1 4294967296 x\n", b"cell 0 1 2 x \n", b"\n", b"cell 0 1 2 x\nend\n"):
+        assert lines.cells_of(bad) is None

@@ -5,12 +5,11 @@ import json
 from pathlib import Path
 
 import pytest
-from backsim.convert.dump import Dump
+from backsim.convert.dump import read_dump
 from backsim.convert.resets import lost_reset
 from backsim.circuit.kinds import Kind
 from backsim.formats.netlist import read_netlist
 from backsim.formats.timing import Clock, read_timing
-from backsim.formats.vcd import read_vcd
 from backsim.main import main
 from conftest import TOP
 from verilog_tools import icarus, in_order, yosys
@@ -161,7 +160,7 @@ def test_the_netlist_has_the_values_of_the_source(how: str, chip, tmp_path, caps
 def test_an_edge_in_a_reset(start: int, stop: int, lost: bool, write) -> None:
     path = write("d.vcd", f"$timescale 1 ns $end\n$scope module m $end\n$var wire 1 ! r $end\n$upscope $end\n$enddefinitions $end\n"
                  f"#0\n0!\n#{start}\n1!\n#{stop}\n0!\n#500\n")
-    found = lost_reset(Dump(read_vcd(path), "m"), "r", "1", Clock(50, 100))
+    found = lost_reset(read_dump(path, "m"), "r", "1", Clock(50, 100))
     assert found == ((start, stop) if lost else ())
 
 

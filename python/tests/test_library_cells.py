@@ -165,17 +165,17 @@ def test_arcs_are_sums_over_the_gates_inside(tmp_path, capsys) -> None:
         z = netlist.gates["z"]
         return own | {f"{port}Z": timing.delay(z, z.pins.index(port.lower())) for port in "ABC"} | {"inner": timing.delay(netlist.gates["y"], netlist.gates["y"].pins.index(inner.name))}
 
-    # A to Y: the greatest is 9, the wire 2, the NOR 1. B to Y is as short as one gate of the two
-    assert pins(annotated(tmp_path, text)) == {"AY": 10, "BY": 1, "CY": 7, "AZ": 7, "BZ": 2, "CZ": 8, "inner": 1}
+    # A to Y: the greatest is 9 and 1 more, the wire 2, the NOR 1. B to Y is as short as one gate of the two
+    assert pins(annotated(tmp_path, text)) == {"AY": 11, "BY": 1, "CY": 7, "AZ": 7, "BZ": 2, "CZ": 8, "inner": 1}
     assert capsys.readouterr().err.splitlines() == [
-        "8 of 9 IOPATH and 1 of 2 INTERCONNECT and PORT are used", "left out: 1 INCREMENT, the first in line 5", "left out: 1 TIMINGCHECK, the first in line 5",
+        "9 of 10 IOPATH and 1 of 2 INTERCONNECT and PORT are used", "left out: 1 TIMINGCHECK, the first in line 5",
         "left out: 1 IOPATH to a port that is no output, or is not connected, the first in line 4",
         "left out: 1 INTERCONNECT to what is no pin of a cell, or one that nothing depends on, the first in line 2",
         "3 IOPATH have different numbers for rise and fall: the greatest counts for both",
         "1 arcs are shorter than the gates inside their cells, which take so much longer: u_core.u1 from B to Y, by 1"]
-    # of typ 5 and 4 the greatest, of min 4 and 3 the least
-    assert pins(annotated(tmp_path, text, "--corner", "typ"))["AY"] == 5 + 2 - 1
-    assert pins(annotated(tmp_path, text, "--corner", "min")) == {"AY": 4, "BY": 1, "CY": 2, "AZ": 5, "BZ": 2, "CZ": 8, "inner": 1}
+    # of typ 5 and 4 the greatest, of min 4 and 3 the least, and 1 more
+    assert pins(annotated(tmp_path, text, "--corner", "typ"))["AY"] == 5 + 1 + 2 - 1
+    assert pins(annotated(tmp_path, text, "--corner", "min")) == {"AY": 5, "BY": 1, "CY": 2, "AZ": 5, "BZ": 2, "CZ": 8, "inner": 1}
 
 
 @pytest.mark.parametrize("how", ["edge", "gates"])

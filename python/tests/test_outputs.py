@@ -8,13 +8,13 @@ import resource
 import signal
 import subprocess
 import sys
-import time
 from pathlib import Path
 
 import pytest
 from backsim import commands
 from backsim.command_line.streams import plain
 from conftest import TOP, read_all
+from processes import PATIENCE, is_there, wait_while_running
 
 C17 = [str(TOP / "examples" / "c17" / f"c17.{kind}") for kind in ("bench", "timing", "stim")]
 C17_SCRIPT, C17_REPLIES, C17_PROOF, C17_JOURNAL = (str(TOP / "examples" / "c17" / f"c17.{kind}")
@@ -73,7 +73,7 @@ def test_an_output_that_takes_nothing(name: str, how: str, buffer: str, program:
     given = os.environ | {"PYTHONPATH": str(TOP / "python"), "PYTHONUNBUFFERED": buffer, "BACKSIM": program}
     # of a pipeline the status is that of the command before
     run = subprocess.run(["bash", "-o", "pipefail", "-c", f'"$@" {how}', "bash", *words], cwd=tmp_path, env=given, input=INPUT,
-                         stdout=subprocess.PIPE, stderr=subprocess.PIPE, text=True, timeout=120)
+                         stdout=subprocess.PIPE, stderr=subprocess.PIPE, text=True, timeout=PATIENCE)
     assert "Traceback" not in run.stderr and run.stdout == ""
     said = re.sub(f"(?m)^{SAID[name]}", "", run.stderr) if name in SAID else run.stderr
     if "head" in how:
@@ -108,12 +108,12 @@ def test_what_can_not_be_written_leaves_what_was_there(words: list[str], tmp_pat
         out.write_text("what was there\n")
     before = sorted(tmp_path.iterdir())
     given = os.environ | {"PYTHONPATH": str(TOP / "python"), "PYTHONDONTWRITEBYTECODE": "1"}
-    run = subprocess.run(command, cwd=tmp_path, env=given, capture_output=True, text=True, preexec_fn=limited, timeout=120)
+    run = subprocess.run(command, cwd=tmp_path, env=given, capture_output=True, text=True, preexec_fn=limited, timeout=PATIENCE)
     assert run.returncode == 2 and run.stderr.count("\n") == 1 and "File too large" in run.stderr
     assert sorted(tmp_path.iterdir()) == before
     assert is_folder or out.read_text() == "what was there\n"
     # and where it can be, it is
-    run = subprocess.run(command, cwd=tmp_path, env=given, capture_output=True, text=True, timeout=120)
+    run = subprocess.run(command, cwd=tmp_path, env=given, capture_output=True, text=True, timeout=PATIENCE)
     assert run.returncode == 0 and (out.is_dir() if is_folder else out.read_text() != "what was there\n")
     assert sorted(tmp_path.iterdir()) == sorted({*before, out})
 
@@ -172,22 +172,19 @@ def test_what_ends_a_command_leaves_no_process_and_no_folder(words: list[str], n
             vcd.write(VCD)
             vcd.flush()
             run.send_signal(number)
-            out, err = run.communicate(timeout=60)
+            out, err = run.communicate(timeout=PATIENCE)
     else:
         wanted = 3 if words[0] == "run" and "--jobs" in words else 1
-        end = time.time() + 60
-        while (not started.exists() or started.read_text().count("\n") < wanted) and time.time() < end:
-            time.sleep(0.05)
+        wait_while_running(run, lambda: started.exists() and started.read_text().count("\n") >= wanted, "its programs are started")
         run.send_signal(number)
-        out, err = run.communicate(timeout=60)
+        out, err = run.communicate(timeout=PATIENCE)
     if words[0] == "faults":
         # what was known is told as partial, with the one status that it has for this
         assert (run.returncode, err) == (130, b"") and out.startswith(b"partial")
     else:
         assert (run.returncode, out, err) == (128 + number, b"", b"") and not (tmp_path / "out").exists()
     assert list(folder.iterdir()) == []
-    for process in started.read_text().split() if started.exists() else []:
-        assert not Path(f"/proc/{process}").exists()
+    assert not any(map(is_there, started.read_text().split() if started.exists() else []))
 
 
 def test_no_control_character_reaches_a_terminal(write, tmp_path) -> None:
@@ -207,3 +204,12 @@ def test_no_control_character_reaches_a_terminal(write, tmp_path) -> None:
 def test_control_characters_are_spelled() -> None:
     # a tab and a line feed stay, and letters that are no ASCII; the second byte of a control of ISO 6429 is told
     assert plain("a\tb\x1b[2J\r\x7fé\x9b\n".encode()) == b"a\tb\\x1b[2J\\x0d\\x7f\xc3\xa9\\x9b\n"
+
+
+@pytest.mark.parametrize("words, cause", [
+    (["journal", "JOURNAL", "--most", "3"], "--most is for --profile"), (["journal", "JOURNAL", "--picture", "out.svg"], "--picture is for --profile"),
+    (["journal", "JOURNAL", "--netlist", C17[0]], "--netlist is for --profile"), (["run", *C17, C17_SCRIPT, "--parts", "out"], "--parts is for --plan"),
+    (["run", *C17, C17_SCRIPT, "--plan", "slurm", "--journal", "out"], "--journal and --plan do not go together")])
+def test_an_option_that_would_do_nothing_is_refused(words: list[str], cause: str, tools, tmp_path) -> None:
+    run = tools(*words, cwd=tmp_path)
+    assert (run.returncode, run.stdout, run.stderr.decode()) == (2, b"", f"backsim-tools {words[0]}: {cause}\n")

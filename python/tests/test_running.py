@@ -7,7 +7,6 @@ import shutil
 import signal
 import subprocess
 import sys
-import time
 from pathlib import Path
 
 import pytest
@@ -15,6 +14,7 @@ from backsim.commands import run as run_command
 from backsim.main import main
 from backsim.scripts.parts import divide, text_lines, text_of, with_every_go
 from conftest import TOP, read_all
+from processes import PATIENCE, is_there, wait_while_running
 
 STAND_IN = str(Path(__file__).with_name("stand_in.py"))
 # gets a reply of every kind but those of stats, trim and vcd lines
@@ -267,10 +267,9 @@ def test_an_interrupt_while_a_process_starts_leaves_none(jobs: str, example, wri
     program.chmod(0o755)
     words = [sys.executable, "-m", "backsim", "run", *example("s27"), write("script", FEW), "--program", program, "--jobs", jobs]
     for _ in range(5):
-        run = subprocess.run(words, cwd=TOP / "python", capture_output=True, timeout=60)
+        run = subprocess.run(words, cwd=TOP / "python", capture_output=True, timeout=PATIENCE)
         assert (run.returncode, run.stdout, run.stderr) == (130, b"", b"")
-    for number in (tmp_path / "started").read_text().split():
-        assert not Path(f"/proc/{number}").exists()
+    assert not any(map(is_there, (tmp_path / "started").read_text().split()))
 
 
 @pytest.mark.parametrize("jobs", ["1", "3"])
@@ -280,13 +279,11 @@ def test_an_interrupted_run_leaves_no_process(jobs: str, example, write, tmp_pat
     words = [sys.executable, "-m", "backsim", "run", *example("s27"), write("script", FEW), "--program", program, "--jobs", jobs]
     run = subprocess.Popen(words, cwd=TOP / "python", stdout=subprocess.PIPE, stderr=subprocess.PIPE)
     started = tmp_path / "started"
-    while not started.exists() or started.read_text().count("\n") < int(jobs):
-        time.sleep(0.05)
+    wait_while_running(run, lambda: started.exists() and started.read_text().count("\n") >= int(jobs), "its programs are started")
     run.send_signal(signal.SIGINT)
-    out, err = run.communicate(timeout=60)
+    out, err = run.communicate(timeout=PATIENCE)
     assert (run.returncode, out, err) == (130, b"", b"")
-    for number in started.read_text().split():
-        assert not Path(f"/proc/{number}").exists()
+    assert not any(map(is_there, started.read_text().split()))
 
 
 def test_a_bar_where_standard_error_is_a_terminal(example, write, tmp_path) -> None:

@@ -21,6 +21,7 @@ from backsim.formats.timing import Timing
 from backsim.formats.vcd import read_vcd
 from backsim.values import BadLine
 from conftest import TOP
+from processes import PATIENCE
 from stand_in import Circuit
 
 STAND_IN = str(Path(__file__).with_name("stand_in.py"))
@@ -389,7 +390,7 @@ def test_threads_share_a_session(example) -> None:
         for thread in threads:
             thread.start()
         for thread in threads:
-            thread.join(60)
+            thread.join(PATIENCE)
         assert not any(thread.is_alive() for thread in threads) and not wrong
 
 
@@ -405,5 +406,5 @@ def test_no_folder_stays_behind(example, program, tmp_path, ends: str) -> None:
     assert process.stdin and process.stdout and process.stdout.readline() == b"0 journal\n"
     if ends in ("term", "kill"):
         process.send_signal(signal.SIGTERM if ends == "term" else signal.SIGKILL)
-    process.communicate(b"\n", timeout=60)
+    process.communicate(b"\n", timeout=PATIENCE)
     assert list(tmp_path.iterdir()) == []

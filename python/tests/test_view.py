@@ -15,6 +15,7 @@ import pytest
 from backsim import Session
 from backsim.formats.vcd import read_vcd
 from browser import CONTRASTS, Browser
+from processes import wait_until
 from view_page import ALT, CTRL, SHIFT, TOP, Oracle, Page, check_shown, ring, viewed
 
 PROCESSOR = "from_verilog"
@@ -83,11 +84,36 @@ def test_the_pixels_are_those_of_the_replies(page, session, theme: str) -> None:
         assert [drawn[x] for x in compared] == [wave.value_at(int(start + (x + 0.5) * span / width)) for x in compared]
 
 
+# The times that stand in the ruler, each from where to where, from left to right.
+RULER_TIMES = r"""(() => {
+  const box = document.createElement('div');
+  box.innerHTML = backsim.svg();
+  document.body.append(box);
+  const times = [...box.querySelectorAll('text')].filter((text) => /^12(\.5)?$/.test(text.getAttribute('y')))
+    .map((text) => { const {x, width} = text.getBBox(); return [x, x + width, text.textContent]; });
+  box.remove();
+  return times.sort((one, other) => one[0] - other[0]);
+})()"""
+
+
+def test_times_in_the_ruler_do_not_overlap(page) -> None:
+    page.press("f")
+    page.settle()
+    assert [time for _, _, time in page.value(RULER_TIMES)][:2] == ["0", "2,000"]
+    # the plate of a cursor near the left edge stands beside its line, over the place of 2,000
+    page.value("backsim.model.show(1243, 12000)")
+    page.value("backsim.model.setCursor(1341)")
+    page.settle()
+    times = page.value(RULER_TIMES)
+    assert times[0][2] == "1,341" and len(times) > 8
+    assert all(before[1] < after[0] for before, after in zip(times, times[1:]))
+
+
 def test_wheel_and_keys_zoom_and_scroll(page, oracle) -> None:
     x, y = page.point(1000, 3)
     page.browser.wheel(x, y, -120, CTRL)
+    page.wait("backsim.model.span < 4000")
     page.settle()
-    assert page.value("backsim.model.span") < 4000
     # the time under the pointer stays where it was
     assert abs(page.value(f"({x} - document.getElementById('stage').getBoundingClientRect().x) * backsim.model.span / backsim.frame.width"
                           " + backsim.model.start") - 1000) < 5
@@ -129,7 +155,7 @@ def test_signals_are_found_as_one_types(page, oracle) -> None:
     page.write("#find", "x")
     page.press("Escape")
     page.press("ArrowDown")
-    page.value("document.activeElement.id") == "tree"
+    assert page.value("document.activeElement.id") == "tree"
     place = page.value("[...document.querySelectorAll('#tree > [role=treeitem]')].findIndex((item) => item.dataset.scope === 'watch.')")
     assert place > 0
     for _ in range(place):
@@ -141,19 +167,47 @@ def test_signals_are_found_as_one_types(page, oracle) -> None:
     assert page.names[-1].startswith("watch.")
 
 
-def test_buses_are_words_in_three_forms(page) -> None:
+def test_what_is_chosen_in_the_tree_stays_chosen(small) -> None:
+    """The page looks for what is typed a moment later, unless it was taken back meanwhile."""
+    small.clear()
+    small.press("/")
+    small.write("#find", "x")
+    small.press("Escape", "ArrowDown")
+    small.value("new Promise((done) => setTimeout(done, 200))")
+    small.press("Enter")
+    assert small.names == [small.value("document.querySelector('#tree .at-focus').dataset.name")]
+
+
+def test_buses_are_words_in_four_forms(page) -> None:
     page.clear()
     page.add("meter[15:0]")
     page.write("#time", "9000")
     page.press("Enter")
     page.settle()
     values = []
-    for _ in range(3):
+    for _ in range(4):
         values.append(page.text("#list .value"))
         page.press("b")
     # the twelfth change of the counter `meter`, from its replies by hand: 9 at 9,000 (docs of the example)
-    assert [int(values[0], 16), int(values[1]), int(values[2], 2)] == [int(values[1])] * 3
-    assert len(values[0]) == 4 and len(values[2]) == 16
+    assert [int(values[0], 16), int(values[1]), int(values[2]), int(values[3], 2)] == [int(values[1])] * 4
+    assert len(values[0]) == 4 and len(values[3]) == 16
+    # in two's complement 1000 is -8 and 0111 is 7
+    assert page.value("import('./model.js').then(({written}) => ['1000', '0111', '1x00', 'zzzz'].map((word) => written(word, 'signed')))") == \
+        ["-8", "7", "x", "z"]
+
+
+def test_a_page_that_is_loaded_anew_shows_what_it_did(page) -> None:
+    page.add("counter")
+    page.press("b")
+    page.write("#time", "9000")
+    page.press("Enter")
+    before = page.names, page.cursor, page.value("backsim.model.start"), page.value("backsim.model.items.map((item) => item.radix)")
+    page.value("window.isOld = true")
+    page.browser.call("Page.reload")
+    page.wait("!window.isOld && window.backsim && backsim.begun > 0")
+    page.settle()
+    assert len(before[0]) > 10 and before[1] == 9000 and "dec" in before[3]
+    assert (page.names, page.cursor, page.value("backsim.model.start"), page.value("backsim.model.items.map((item) => item.radix)")) == before
 
 
 def test_rows_are_dragged_moved_grouped_and_coloured(page, oracle) -> None:
@@ -201,6 +255,7 @@ def test_cursor_and_marker_tell_values_and_their_difference(page, session) -> No
     # what the pointer is over is told, with the whole value
     x, y = page.point(at + 0.5, 8)
     page.browser.call("Input.dispatchMouseEvent", type="mouseMoved", x=x, y=y)
+    page.wait("/^meter.* at /.test(document.getElementById('stage').title)")
     name, time, value = re.fullmatch(r"(.*) at ([0-9,]+): ([0-9a-f]+)", page.value("document.getElementById('stage').title")).groups()
     assert (name, int(value, 16)) == ("meter[15:0]", int(session.at(name, int(time.replace(",", ""))).value, 2))
 
@@ -247,6 +302,7 @@ def test_a_click_on_a_value_walks_to_its_cause(small) -> None:
     assert steps[-1] in ("G8 = x", "G12 = x")
     assert "2 signals had no time to get a value" in small.text("#causes") and small.value("document.getElementById('roots').options.length") == 2
     # its signals are in the waves now, and the way is drawn
+    small.settle()
     assert small.names[5] == "Why G17 is x at 4" and small.names[6:8] == ["G11", "G9"]
     pixels = small.value("""(() => { const c = document.getElementById('canvas');
       const copy = new OffscreenCanvas(c.width, c.height).getContext('2d', {willReadFrequently: true});
@@ -256,6 +312,14 @@ def test_a_click_on_a_value_walks_to_its_cause(small) -> None:
     assert pixels > 200
     small.press("]")
     assert small.cursor == 3 and small.text("#chain [aria-current] b") == "G11 = x"
+    # where rows have little room, that of the step is scrolled into view
+    small.browser.call("Emulation.setDeviceMetricsOverride", width=1366, height=330, deviceScaleFactor=1, mobile=False)
+    small.press("]")
+    small.settle()
+    shown = small.value("(() => { const list = document.getElementById('list').getBoundingClientRect(), "
+                        "row = document.querySelector('#list .at-focus').getBoundingClientRect(); return [list.top - 1, row.top, row.bottom, list.bottom + 1]; })()")
+    assert small.text("#list .at-focus .name") == "G9" and shown == sorted(shown)
+    small.browser.call("Emulation.setDeviceMetricsOverride", width=1366, height=768, deviceScaleFactor=1, mobile=False)
     small.press(*"]" * len(steps))
     assert small.cursor == 0 and "before its delay" in small.text("#chain [aria-current] small")
     small.press(*"[" * len(steps))
@@ -313,8 +377,9 @@ def test_a_spent_budget_is_grey_with_a_button(browser, write, program) -> None:
         page.settle()
         spent = [run for row in page.shown()["rows"] for run in row["good"] if "spent" in run]
         assert spent
+        asked = page.value("backsim.link.asked")
         page.browser.click("#over button")
-        page.wait("document.body.dataset.state === 'asking'")
+        page.wait(f"backsim.link.asked > {asked}")
         page.settle()
         left = [run for row in page.shown()["rows"] for run in row["good"] if "spent" in run]
         assert sum(run["b"] - run["a"] for run in left) < sum(run["b"] - run["a"] for run in spent)
@@ -331,11 +396,9 @@ def save(page: Page, folder: Path, form: str, name: str) -> Path:
     page.browser.click(f"#save-dialog button[value={form}]")
     path = folder / name
     page.wait("!document.querySelector('dialog[open]')")
-    for _ in range(200):
-        if path.exists() and path.stat().st_size:
-            return path
-        page.value("new Promise((done) => setTimeout(done, 50))")
-    raise AssertionError(f"{name} was not saved")
+    # the browser gives it its name once it is whole
+    wait_until(lambda: path.exists() and path.stat().st_size > 0, f"{name} is saved")
+    return path
 
 
 def test_what_is_in_view_is_saved_and_opened_again(page, oracle, session, saved, browser, program) -> None:
@@ -391,6 +454,34 @@ def test_a_changed_stimulus_is_loaded_on_a_key(browser, write, program) -> None:
         page.press("+")
         page.settle()
         assert all("value" in run for row in page.shown()["rows"] for run in row["good"])
+
+
+# Holds the next answer that tells the state of the session, until `held()` is called.
+HOLD_STATE = """(() => {
+  const fetched = window.fetch;
+  window.held = null;
+  window.fetch = async (path, options) => {
+    const answer = await fetched(path, options);
+    if (!path.startsWith('state') || window.held) return answer;
+    await new Promise((done) => { window.held = done; });
+    return answer;
+  };
+})()"""
+
+
+def test_an_answer_of_before_the_files_were_loaded_is_passed_over(browser, write, program) -> None:
+    files = [write("n.bench", "INPUT(a)\nOUTPUT(y)\ny = NOT(a)\n"), write("n.timing", ""), write("n.stim", "horizon 20\nset a 0 0\n")]
+    with viewed(browser, program, files) as page:
+        write("n.stim", "horizon 30\nset a 0 0\n")
+        page.wait("!document.getElementById('notice').hidden")
+        page.value(HOLD_STATE)
+        page.wait("window.held !== null")
+        page.press("r")
+        page.wait("backsim.model.horizon === 30")
+        page.value("""(() => { window.told = []; const notice = document.getElementById('notice');
+          new MutationObserver(() => window.told.push(notice.textContent)).observe(notice, {childList: true}); window.held(); })()""")
+        page.value("new Promise((done) => setTimeout(done, 200))")
+        assert page.value("window.told.filter((text) => text)") == [] and page.value("backsim.model.horizon") == 30
 
 
 @pytest.mark.parametrize("theme", ["light", "dark"])
@@ -571,4 +662,10 @@ def test_times_in_seconds(browser, write, program) -> None:
         page.write("#time", "3ps")
         page.press("Enter")
         assert page.cursor == 1200 and page.text("#said") == "times are from 0 to 90,000, in units of 10 ps, or such as 10ps"
-        assert page.value("document.getElementById('at-cursor').title") == "12 ns"
+        page.press("Escape", "m", "t")
+        page.write("#time", "900")
+        page.press("Enter")
+        assert page.cursor == 900
+        # the cursor at 900 and the marker at 1,200 units of 10 ps
+        assert [page.text(f"#{name}-seconds") for name in ("cursor", "marker", "difference")] == ["9 ns", "12 ns", "−3 ns"]
+        assert page.text("#unit") == "units of 10 ps" and "units of 10 ps" in page.value("backsim.svg()")

@@ -8,16 +8,17 @@ import os
 import signal
 import socket
 import threading
-import time
 from collections.abc import Iterator
 from pathlib import Path
 from urllib.parse import urlsplit
 
 import pytest
+from backsim.view.asker import SEARCH_LIMIT
 from backsim.view.store import Known, Span, shown
 from backsim.view.index import Index
 from array import array
 from browser import Browser
+from processes import PATIENCE, children_of, is_there, wait_until
 from view_page import ring, served
 
 
@@ -35,7 +36,7 @@ def address(files, program) -> Iterator[str]:
 def asked(address: str, path: str, method: str = "GET", body: str = "", **headers: str) -> tuple[int, bytes]:
     """The status and the text of a request, to the address's port with its token unless the path begins with /."""
     parts = urlsplit(address)
-    connection = http.client.HTTPConnection("127.0.0.1", parts.port, timeout=20)
+    connection = http.client.HTTPConnection("127.0.0.1", parts.port, timeout=PATIENCE)
     connection.putrequest(method, path if path.startswith("/") else parts.path + path, skip_host="Host" in headers)
     for name, value in headers.items():
         connection.putheader(name.replace("_", "-"), value)
@@ -127,26 +128,21 @@ def test_a_signal_ends_all_and_leaves_nothing(files, program, tmp_path: Path, nu
         assert asked(address, "state")[0] == 200
         body = json.dumps({"page": "a", "number": 1, "step": 1, "rows": [{"row": 1, "name": "G17", "fault": ["G8", "1"], "windows": [[0, 31]]}]})
         assert b'"end":true' in asked(address, "waves", "POST", body)[1]
-        children = _children(process.pid)
+        children = children_of(process.pid)
         assert len(children) == 2
         process.send_signal(number)
-        assert process.wait(timeout=20) == 0
+        assert process.wait(timeout=PATIENCE) == 0
     assert list(tmp_path.iterdir()) == []
-    deadline = time.monotonic() + 10
-    while any(Path(f"/proc/{child}").exists() for child in children) and time.monotonic() < deadline:
-        time.sleep(0.05)
-    assert not any(Path(f"/proc/{child}").exists() for child in children)
+    assert not any(map(is_there, children))
 
 
-def _children(parent: int) -> list[int]:
-    return [int(path.name) for path in Path("/proc").iterdir() if path.name.isdigit() and _parent_of(path) == parent]
-
-
-def _parent_of(path: Path) -> int | None:
-    try:
-        return int((path / "stat").read_text().rpartition(")")[2].split()[1])
-    except OSError:
-        return None
+@pytest.mark.parametrize("unit, said", [("# unit 10 ps\n", b"10 ps"), ("# unit 25 ps\n", b"1 ns"), ("", b"1 ns")])
+def test_a_saved_dump_has_the_unit_of_the_files(write, program, unit: str, said: bytes) -> None:
+    """Where VCD can state it: 1, 10 or 100 of a word."""
+    files = [write("n.bench", "INPUT(a)\n"), write("n.timing", unit), write("n.stim", "horizon 5\nset a 2 1\n")]
+    with served(*files, "--program", program) as (_, address):
+        status, text = asked(address, "dump", "POST", json.dumps({"rows": [{"name": "a"}], "start": 0, "stop": 6}))
+        assert status == 200 and b"$timescale %b $end" % said in b" ".join(text.split())
 
 
 def test_a_request_that_comes_late_does_not_end_a_newer_one(address) -> None:
@@ -166,7 +162,7 @@ def test_the_last_of_many_connections_is_there_when_the_command_goes_on(files, p
         asked(address, "state")
         process.send_signal(signal.SIGSTOP)
         try:
-            opened = [socket.create_connection(("127.0.0.1", urlsplit(address).port or 0), timeout=10) for _ in range(100)]
+            opened = [socket.create_connection(("127.0.0.1", urlsplit(address).port or 0), timeout=PATIENCE) for _ in range(100)]
         finally:
             process.send_signal(signal.SIGCONT)
         for connection in opened:
@@ -175,23 +171,27 @@ def test_the_last_of_many_connections_is_there_when_the_command_goes_on(files, p
 
 
 def test_a_question_ends_where_who_asked_goes_away(write, program) -> None:
-    """No value is x, which takes 4,000,000 evaluations to be given up."""
+    """No value is x, which takes SEARCH_LIMIT evaluations to be given up."""
     def fills() -> int:
         found: int = json.loads(asked(address, "state")[1])["fills"]
         return found
+
+    def has_ended(time: int) -> bool:
+        """Whether nothing is evaluated while the input is asked for at a time, which takes nothing, in two turns with one of the search between."""
+        before = fills()
+        told = asked(address, "values", "POST", json.dumps({"time": time, "rows": [{"row": 1, "name": "a"}]}))
+        assert json.loads(told[1])["values"] == {"1": str(time // 100 % 2)}
+        return fills() == before
 
     with served(*ring(write), "r0", "--to", "2", "--program", program) as (_, address):
         own = urlsplit(address)
         body = json.dumps({"name": "r0", "time": 0, "forward": True, "value": "x"})
         with socket.create_connection(("127.0.0.1", own.port or 0)) as connection:
             connection.sendall(f"POST {own.path}search HTTP/1.1\r\nHost: {own.netloc}\r\nContent-Length: {len(body)}\r\n\r\n{body}".encode())
-            while fills() < 50_000:
-                time.sleep(0.01)
-        before = -1
-        while fills() > before:
-            before = fills()
-            time.sleep(1)
-        assert before < 2_000_000
+            wait_until(lambda: fills() >= 50_000, "the search has begun")
+        times = iter(range(50, 100_000, 100))
+        wait_until(lambda: has_ended(next(times)), "the search has ended")
+        assert fills() < SEARCH_LIMIT
 
 
 def test_bad_words_and_files_are_refused_in_a_line(tools, files, write) -> None:
@@ -231,6 +231,7 @@ def test_names_are_found_without_the_whole_netlist(write) -> None:
                             "u1.alu.s[0] = NOT(clk)\nu1.alu.s[1] = NOT(clk)\n$made.up$1 = BUFF(q)\n")
     index = Index(path)
     assert index.first(10) == ["clk", "a[1:0]", "q"]
+    assert [index.full(name) for name in ("u1.alu.s", "a", "q", "a[0:1]", "none")] == ["u1.alu.s[1:0]", "a[1:0]", "q", "a[0:1]", "none"]
     assert len(index) == 8
     top = index.level("", 10)
     assert [one.name for one in top.signals] == ["a[1:0]", "clk", "q"] and [one.kind for one in top.signals] == ["input", "input", "register"]

@@ -6,6 +6,7 @@ import xml.etree.ElementTree as ElementTree
 
 import pytest
 from backsim.errors import FormatError, UsageError
+from backsim.main import main
 from backsim.pictures.rows import Row, bus_row, row_of, with_buses, word_text
 from backsim.pictures.shapes import HALF, Shapes
 from backsim.pictures.sources import chosen, rows_of_replies, rows_of_vcd
@@ -24,6 +25,7 @@ def wave(name: str, start: int, stop: int, *changes: tuple[int, str]) -> Wave:
     ("0000", "hex", "0"), ("11111010", "hex", "fa"), ("1", "hex", "1"), ("101010", "hex", "2a"), ("xxxx", "hex", "x"),
     ("xx10", "hex", "X"), ("xx0101", "hex", "x5"), ("x0010", "hex", "x2"), ("zzzz0001", "hex", "z1"), ("z001", "hex", "X"),
     ("11111010", "dec", "250"), ("1x", "dec", "x"), ("zz", "dec", "z"), ("z0", "dec", "x"), ("10xz", "bin", "10xz"),
+    ("1000", "signed", "-8"), ("0111", "signed", "7"), ("1x", "signed", "x"), ("zz", "signed", "z"),
 ])
 def test_words_of_a_bus(word: str, radix: str, expected: str) -> None:
     assert word_text(word, radix) == expected
@@ -75,7 +77,10 @@ def test_buses_are_bands_with_values_where_these_have_room() -> None:
     (shape,) = shapes.areas["bus"]
     assert shape[0] == (10, 0) and shape[3] == (39, 0) and {abs(y) for _, y in shape} == {0, HALF}
     assert shapes.texts == [(24.5, 0, "3a")]
-    assert shapes_of(Row("c", (wave("c", 0, 40, (0, "0000"), (39, "1111")),))).texts == [(19.5, 0, "0")]
+    assert shapes_of(Row("c", (wave("c", 0, 40, (0, "0000"), (39, "1111")),)), unit=0.1).texts == [(19.5, 0, "0")]
+    # 0.4 inches, of which 0.08 stay free, have room for three letters of 0.09, and 0.3 for two
+    assert shapes_of(Row("c", (wave("c", 0, 40, (0, "0011101001011100")),)), unit=0.01).texts == [(20, 0, "3a…")]
+    assert shapes_of(Row("c", (wave("c", 0, 30, (0, "0011101001011100")),)), unit=0.01).texts == []
 
 
 def test_a_value_at_one_time_is_a_letter_and_a_crowd_of_them_points() -> None:
@@ -135,6 +140,16 @@ def test_pictures_of_1_and_of_64_waves() -> None:
             waves_picture([row] * count, "svg")
     with pytest.raises(UsageError, match="no time to draw"):
         waves_picture([row], "svg", start=9, stop=9)
+
+
+def test_the_axis_says_what_a_unit_of_time_is(write, tmp_path, program, monkeypatch) -> None:
+    pytest.importorskip("matplotlib", reason="matplotlib is missing (Debian's package python3-matplotlib)")
+    monkeypatch.setenv("BACKSIM", program)
+    files = [str(write("n", "INPUT(a)\n")), str(write("t", "# unit 10 ps\n")), str(write("s", "horizon 5\nset a 0 1\n"))]
+    plain = [files[0], str(write("p", "")), str(write("q", "horizon 5\nset a 0 1\n"))]
+    for words, said in ((files, b"<!-- time in units of 10 ps -->"), (plain, b"<!-- time -->")):
+        assert main(["draw", *words, "a", "-o", str(tmp_path / "p.svg")]) == 0
+        assert said in (tmp_path / "p.svg").read_bytes()
 
 
 def test_the_same_svg_each_time_with_hatched_bands() -> None:

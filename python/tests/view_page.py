@@ -13,6 +13,7 @@ from typing import Any
 from backsim import Netlist, Session, Stimulus, Timing, read_netlist, read_stimulus, read_timing
 from backsim.values import Budget, Wave
 from browser import Browser
+from processes import PATIENCE
 
 TOP = Path(__file__).resolve().parents[2]
 ALT, CTRL, SHIFT = 1, 2, 8
@@ -52,7 +53,7 @@ def served(*words: object, **options: Any) -> Iterator[tuple[subprocess.Popen[st
     finally:
         if process.poll() is None:
             process.send_signal(signal.SIGTERM)
-        process.wait(timeout=60)
+        process.wait(timeout=PATIENCE)
         process.stdout.close()  # type: ignore[union-attr]
 
 

@@ -1,10 +1,8 @@
 -- What asking for one time leaves.
-use Rattle.std.proofs.Common.{◌≡◌, ℕ, ◌+◌, ◌-◌, nat_lt, Bool, true, false, true≢false, List, [], ◌∷◌, All, is_some, Option, Some, None, refl, sym, subst, arith}
-use Rattle.std.proofs.lemmas.Bool.{lt-ltb}
+use Rattle.std.proofs.Common.{◌≡◌, ℕ, ◌-◌, nat_lt, Bool, false, true≢false, List, [], ◌∷◌, All, is_some, Option, Some, None, refl, sym, subst, arith}
 use Rattle.std.proofs.lemmas.List.Elements.{All-from_recursion, recursion_from_All}
 use Rattle.valid_intervals.specs.declared.Point.{Point}
 use Rattle.valid_intervals.specs.declared.SignalCell.{SignalCell}
-use Rattle.circuit_meaning.specs.Circuit.{Circuit}
 use Rattle.journal_meaning.specs.declared.Entry.{Entry}
 use Rattle.journal_meaning.specs.declared.Entry.TheVariants.{Filled}
 use Rattle.journal_meaning.specs.Answers.{IsCovered}
@@ -18,22 +16,13 @@ use Rattle.plan_machine.specs.Shards.{Shard}
 use Rattle.plan_machine.specs.Alone.{roots_of, IsOutcome}
 use Rattle.plan_machine.specs.Settle.{journals_of, entries_in}
 use Rattle.plan_machine.specs.inner.Settle.{AskedAlone, IsStanding, IsAskedFor, Reaches}
-use Rattle.plan_machine.proofs.Settle.{asked-reaches}
+use Rattle.plan_machine.proofs.Settle.{one-root, asked-reaches}
 use Rattle.plan_machine.proofs.Underway.{contains-none}
 use Rattle.memo_shards.specs.KeptShards.{KeptShard}
 use Rattle.plan_core.specs.Parts.{shards_in}
 use Rattle.asked_cells.specs.Memos.{IsChargedMemo, entries_of, asked_at, at_time}
 use Rattle.asked_cells.specs.Asked.{HasAsked}
 use Rattle.asked_cells.specs.inner.Standings.{live, standing}
-
--- a start for one time has that one root
-module _ (c : Circuit) where
-  one-root : (a : Start) → a.stop ≡ a.start + 1 → roots_of c a ≡ record { signal = a.query.signal; time = a.start } ∷ []
-  unfolding roots_from
-  one-root a e =
-      let n : a.stop - a.start ≡ 1 = omega arith in
-      let low : nat_lt a.start a.stop ≡ true = lt-ltb a.start a.stop (omega arith) in
-      rw (n, low) refl
 
 module _ (b : Batch) (opening : ℕ → List SignalCell) where
   -- a strand ran alone

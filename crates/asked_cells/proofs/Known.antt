@@ -19,8 +19,9 @@ use Rattle.batch_meaning.specs.Lawful.{IsLawful}
 use Rattle.memo_shards.specs.KeptShards.{KeptShard, IsKnownShard}
 use Rattle.pin_walks.specs.PinWalks.{IsPoint}
 use Rattle.plan_machine.proofs.Underway.{each-contains}
+use Rattle.plan_machine.proofs.Settle.{evaluable-signal}
 use Rattle.asked_cells.specs.Memos.{entries_of}
-use Rattle.asked_cells.proofs.Pins.{needed-evaluable, evaluable-signal}
+use Rattle.asked_cells.proofs.Pins.{needed-evaluable}
 
 -- the shard in whose journal an entry stands
 record Home (ms : List KeptShard) (e : Entry) : Type 0 where

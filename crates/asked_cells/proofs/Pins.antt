@@ -2,9 +2,9 @@
 use Rattle.std.proofs.Common.{◌≡◌, ℕ, zero, suc, ◌<◌, List, [], ◌∷◌, length, get_or, All, Contains, Option, Some, None, refl, sym, subst, arith}
 use Rattle.std.proofs.lemmas.List.Elements.{All-from_recursion}
 use Rattle.valid_intervals.specs.declared.Point.{Point}
-use Rattle.circuit_meaning.specs.Circuit.{Circuit, Driver, Input}
+use Rattle.circuit_meaning.specs.Circuit.{Circuit}
 use Rattle.circuit_meaning.specs.declared.Window.{Window}
-use Rattle.circuit_meaning.specs.Need.{HasChildren, IsEvaluable, IsNeeded, Root, Child, children}
+use Rattle.circuit_meaning.specs.Need.{IsEvaluable, IsNeeded, Root, Child, children}
 use Rattle.circuit_meaning.specs.Looks.{somes}
 use Rattle.circuit_meaning.proofs.Looking.{children-somes}
 use Rattle.journal_meaning.specs.declared.Entry.{Entry}
@@ -34,9 +34,3 @@ pins-visited c es p h = subst (All (IsCovered c es)) (sym (children-somes c p.si
 pub needed-evaluable : (c : Circuit) (w : Window) (s t : ℕ) → IsNeeded c w s t → IsEvaluable c s t
 needed-evaluable c w s t (Root r e) = e
 needed-evaluable c w s t (Child n k e) = e
-
--- and is of a signal of the circuit
-pub evaluable-signal : (t : ℕ) (ds : List Driver) (s : ℕ) → HasChildren t (get_or ds s (Input [])) → s < length ds
-evaluable-signal t [] s h = absurd h
-evaluable-signal t (d ∷ ds) zero h = omega arith
-evaluable-signal t (d ∷ ds) (suc s) h = let k = evaluable-signal t ds s h in omega arith

@@ -1,9 +1,9 @@
 //! The cells of a batch, asked of the memo one time at a time by a strand alone.
 //!
 //! A [`Memo`] is the shards of a batch as its owner goes on alone, once no worker runs: no point is claimed. [`begin`] makes it of
-//! shards that workers left, or of new ones, and [`begin_with`] of shards of which others have noted where their entries stand. [`reach`] answers the cell of a query at one time: as a base answer, as what an entry of
-//! the batch says, or by a strand that runs alone for this one time (`plan_core`) and fills what is missing. Where that would take more
-//! evaluations than the query's budget, the query is refused.
+//! shards that workers left, or of new ones, and [`begin_with`] of shards of which others have noted where their entries stand. [`reach`]
+//! answers the cell of a query at one time: as a base answer, as what an entry of the batch says, or by a strand that runs alone for this
+//! one time (`plan_core`) and fills what is missing. Where that would take more evaluations than the query's budget, the query is refused.
 //!
 //! Whoever asks keeps what the query is charged, since each fill for the query counts (`IsChargedMemo`). What a call leaves is told by
 //! `HasAsked`, in the words of `plan_machine`: entries for the query alone were added, the children of what was filled are covered, and so

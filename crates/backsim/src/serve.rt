@@ -94,7 +94,7 @@ fn serve_files<F: Files, Q: Source, S: Sink, G: Gate, R: Threads + Wait + Sync>(
 
 /// Serves what the words ask for. What it promises is told by what they ask for (`specs/Serves`); no clause names the number of
 /// workers but as a part of the words, so it is promised for every number and under every order of their steps. With one worker the
-/// functions that run a batch cannot wait (`worker_gate`), so each batch is proved to end.
+/// functions that make a batch's turns cannot wait (`worker_gate`), so these are proved to end.
 pub fn serve<F: Files, Q: Source, S: Sink, G: Gate, R: Threads + Wait + Sync>(
     rt: &R,
     alloc: Global,

@@ -1,4 +1,3 @@
-pub mod Same
 pub mod Keys
 pub mod Found
 pub mod Cached

@@ -10,9 +10,6 @@ use Rattle.cell_store.proofs.Links.{Same, Cell, Held, any_down, below_down, cell
 abbrev Links : Type 0
 Links = ℕ → Option ℕ
 
-itself : (i : ℕ) → nat_eq i i ≡ true
-itself i = eq-eqb i i refl
-
 -- the cell that a search for a time finds is the last that begins no later
 module _ (held : Held) (link first : Links) (lists : AreLists held link first) (signal start : ℕ) where
   pub last_before : (before after : Option ℕ) → IfNone before (after ≡ first signal) → IfSome before (IsBefore held link signal start after)
@@ -45,13 +42,13 @@ module _ (held new : Held) (link link' first first' : Links) (lists : AreLists h
     (is : (j : ℕ) → new j ≡ cond (nat_eq i j) (Some (k, p)) (held j))
     (links : (j : ℕ) → link' j ≡ cond (nat_eq i j) gap.after (cond (is_it gap.before j) (Some i) (link j))) where
   here : new i ≡ Some (k, p)
-  here = is i ∙ ap (λ (b : Bool). cond b (Some (k, p)) (held i)) (itself i)
+  here = is i ∙ ap (λ (b : Bool). cond b (Some (k, p)) (held i)) (eq-eqb i i refl)
 
   others : (j : ℕ) → nat_eq i j ≡ false → new j ≡ held j
   others j h = is j ∙ ap (λ (b : Bool). cond b (Some (k, p)) (held j)) h
 
   of_new : link' i ≡ gap.after
-  of_new = links i ∙ ap (λ (b : Bool). cond b gap.after (cond (is_it gap.before i) (Some i) (link i))) (itself i)
+  of_new = links i ∙ ap (λ (b : Bool). cond b gap.after (cond (is_it gap.before i) (Some i) (link i))) (eq-eqb i i refl)
 
   of_other : (j : ℕ) → nat_eq i j ≡ false → is_it gap.before j ≡ false → link' j ≡ link j
   of_other j h b = links j ∙ ap (λ (c : Bool). cond c gap.after (cond (is_it gap.before j) (Some i) (link j))) h ∙ ap (λ (c : Bool). cond c (Some i) (link j)) b
@@ -187,7 +184,7 @@ module _ (held new : Held) (link link' first first' : Links) (lists : AreLists h
     (is : (j : ℕ) → new j ≡ cond (nat_eq i j) None (held j))
     (links : (j : ℕ) → nat_eq i j ≡ false → link' j ≡ cond (is_it before j) (link i) (link j)) where
   gone : new i ≡ None
-  gone = is i ∙ ap (λ (b : Bool). cond b None (held i)) (itself i)
+  gone = is i ∙ ap (λ (b : Bool). cond b None (held i)) (eq-eqb i i refl)
 
   rest : (j : ℕ) → nat_eq i j ≡ false → new j ≡ held j
   rest j h = is j ∙ ap (λ (b : Bool). cond b None (held j)) h

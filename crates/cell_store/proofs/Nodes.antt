@@ -24,9 +24,6 @@ bound_cond : {X Y : Type 0} (f : X → Option Y) (b : Bool) (x : X) (o : Option 
 bound_cond f true x o = refl
 bound_cond f false x o = refl
 
-itself : (i : ℕ) → nat_eq i i ≡ true
-itself i = eq-eqb i i refl
-
 pub written_held : (nodes : List Node) (i : ℕ) (n : Node) → i < length nodes → (j : ℕ) → held_at (slice_set nodes i n) j ≡ cond (nat_eq i j) (held_in n) (held_at nodes j)
 written_held nodes i n within j = ap (bound held_in) (get_set nodes i n j within) ∙ bound_cond held_in (nat_eq i j) n (slice_get nodes j)
 
@@ -45,7 +42,7 @@ over_same f i j =
 
 -- the link to a node, or to itself where there is none
 pub link_to : (i : ℕ) (o : Option ℕ) → (o ≡ Some i → ⊥) → cond (nat_eq (unwrap_or o i) i) None (Some (unwrap_or o i)) ≡ o
-link_to i None other = ap (λ (b : Bool). cond b None (Some i)) (itself i)
+link_to i None other = ap (λ (b : Bool). cond b None (Some i)) (eq-eqb i i refl)
 link_to i (Some j) other =
     ⊎_elim (λ (e : j ≡ i). absurd (other (ap (λ (n : ℕ). Some n) e))) (λ (h : nat_eq j i ≡ false). ap (λ (b : Bool). cond b None (Some j)) h) (same_or_not j i)
 

@@ -15,11 +15,8 @@ use Rattle.cell_store.proofs.Found.{none_some}
 abbrev pub without : ℕ → Slots → Slots
 without slot slots = remove_entry (nat_eq slot) slots
 
-pub itself : (s : ℕ) → nat_eq s s ≡ true
-itself s = eq-eqb s s refl
-
 pub without_first : (s : ℕ) (slots : Slots) → without s ((s, tt) ∷ slots) ≡ slots
-without_first s slots = ap (λ b. cond b slots ((s, tt) ∷ without s slots)) (itself s)
+without_first s slots = ap (λ b. cond b slots ((s, tt) ∷ without s slots)) (eq-eqb s s refl)
 
 pub without_other : (s t : ℕ) (slots : Slots) → nat_eq s t ≡ false → without s ((t, tt) ∷ slots) ≡ (t, tt) ∷ without s slots
 without_other s t slots other = ap (λ b. cond b slots ((t, tt) ∷ without s slots)) other

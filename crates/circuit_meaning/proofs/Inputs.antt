@@ -25,11 +25,11 @@ module _ (s : Setting) (rest : List Setting) (t : ℕ) where
   last-passed h = rw (lt-leb s.time t h)
 
   module _ (limit : ℕ) where
-    next-here : t < s.time → next_setting (s ∷ rest) t limit ≡ min s.time (next_setting rest t limit)
+    pub next-here : t < s.time → next_setting (s ∷ rest) t limit ≡ min s.time (next_setting rest t limit)
     unfolding next_setting
     next-here h = rw (lt-ltb t s.time h)
 
-    next-passed : s.time ≤ t → next_setting (s ∷ rest) t limit ≡ next_setting rest t limit
+    pub next-passed : s.time ≤ t → next_setting (s ∷ rest) t limit ≡ next_setting rest t limit
     unfolding next_setting
     next-passed h = rw (le-ltb t s.time h)
 

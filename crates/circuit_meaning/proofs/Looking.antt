@@ -22,7 +22,7 @@ all_of : {A : Type 0} (P : A → Type 0) → ((a : A) → P a) → (xs : List A)
 all_of P h [] = tt
 all_of P h (x ∷ xs) = (h x, all_of P h xs)
 
-sees-source : (c : Circuit) (t : ℕ) (p : Pin) → sees c (pin_point t p) ≡ seen_value (value c) t p
+pub sees-source : (c : Circuit) (t : ℕ) (p : Pin) → sees c (pin_point t p) ≡ seen_value (value c) t p
 sees-source c t p = elim (nat_lt t p.delay) as (λ b. sees c (cond b None (Some (record { signal = p.signal; time = t - p.delay }))) ≡ cond b X (value c p.signal (t - p.delay))) [ true ↦ refl | false ↦ refl ]
 
 sees-sources : (c : Circuit) (t : ℕ) (pins : List Pin) → map (sees c) (map (pin_point t) pins) ≡ map (seen_value (value c) t) pins
@@ -59,7 +59,7 @@ late-somes t (p ∷ pins) =
       | inr l ↦ rw (le-leb _ _ l, le-ltb _ _ l) (ap (λ rest. point p ∷ rest) (late-somes t pins))
     ]
 
-cut-sources : (c : Circuit) (t : ℕ) (kind : Kind) (pins : List Pin) → map (pin_point t) (looked_pins c t kind pins) ≡ up_to_first (λ o. decides kind (sees c o)) (map (pin_point t) pins)
+pub cut-sources : (c : Circuit) (t : ℕ) (kind : Kind) (pins : List Pin) → map (pin_point t) (looked_pins c t kind pins) ≡ up_to_first (λ o. decides kind (sees c o)) (map (pin_point t) pins)
 cut-sources c t kind pins =
     ap (map (pin_point t)) (cut_alike (decides kind) (λ p. sees c (pin_point t p)) (seen_value (value c) t) pins (all_of (λ p. sees c (pin_point t p) ≡ seen_value (value c) t p) (sees-source c t) (up_to_first (λ p. decides kind (sees c (pin_point t p))) pins)))
     ∙ map-up_to_first (λ o. decides kind (sees c o)) (pin_point t) pins

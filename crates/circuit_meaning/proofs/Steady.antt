@@ -21,7 +21,7 @@ use Rattle.circuit_meaning.proofs.Inputs.{last-steady, next-steady}
 use Rattle.flip_flops.proofs.EdgeLemmas.{none-edge, edge-steady}
 
 -- intersections
-in_all : (a : Span) (xs : List Span) (u : ℕ) → IsIn (fold meet a xs) u → IsIn a u × AllByRecursion (λ x. IsIn x u) xs
+pub in_all : (a : Span) (xs : List Span) (u : ℕ) → IsIn (fold meet a xs) u → IsIn a u × AllByRecursion (λ x. IsIn x u) xs
 in_all a [] u h = (h, tt)
 in_all a (x ∷ xs) u h =
     let k = in_all (meet a x) xs u h in
@@ -45,7 +45,7 @@ unfolding least_delay
 least [] = tt
 least (p ∷ pins) = fold-least p.delay pins
 
-all_map : {A B : Type 0} (P : B → Type 0) (f : A → B) (xs : List A) → AllByRecursion P (map f xs) → AllByRecursion (λ a. P (f a)) xs
+pub all_map : {A B : Type 0} (P : B → Type 0) (f : A → B) (xs : List A) → AllByRecursion P (map f xs) → AllByRecursion (λ a. P (f a)) xs
 all_map P f [] h = tt
 all_map P f (x ∷ xs) h = (h.0, all_map P f xs h.1)
 

@@ -1,13 +1,12 @@
 -- A wave is its first value and the changes after it, and there is no change inside a cell.
-use Rattle.std.proofs.Common.{◌≡◌, ℕ, zero, suc, ◌+◌, ◌-◌, ◌<◌, ◌≤◌, ◌≢◌, Bool, true, false, cond, not, ◌||◌, ◌==◌, List, [], ◌∷◌, ◌++◌, map, filter, refl, sym, ap, ◌∙◌, subst, inl, inr, arith, zero-add, add-zero, suc-add}
+use Rattle.std.proofs.Common.{◌≡◌, ℕ, zero, suc, ◌+◌, ◌-◌, ◌<◌, ◌≤◌, Bool, true, false, cond, not, ◌||◌, ◌==◌, List, [], ◌∷◌, ◌++◌, map, filter, refl, sym, ap, ◌∙◌, subst, inl, inr, arith, zero-add, add-zero, suc-add}
 use Rattle.std.specs.List.{range_with_len}
 use Rattle.std.proofs.lemmas.Bool.{cases_lt}
 use borrow.Author.Tests.{ne_eqb, eq-eqb}
 use Rattle.std.proofs.lemmas.List.Elements.{filter-append}
 use Rattle.std.proofs.lemmas.List.{map-append}
-use Rattle.gate_values.specs.declared.Value.{Value}
-use Rattle.gate_values.specs.declared.Value.TheVariants.{Zero, One, X, Z}
 use Rattle.gate_values.specs.Gates.{same_value}
+use Rattle.gate_values.proofs.Same.{same_itself, same_is, other_is}
 use Rattle.circuit_meaning.specs.Circuit.{Circuit, IsCircuit}
 use Rattle.circuit_meaning.specs.Laws.{changes, WavesAreChanges, GoOn, AreMaximal}
 use Rattle.circuit_meaning.specs.Cells.{span}
@@ -18,12 +17,6 @@ use Rattle.circuit_meaning.specs.declared.Run.{Run}
 -- whether the value changes at t, and the changes from a on, n times long
 abbrev changed : Circuit → ℕ → ℕ → Bool
 changed c s t = not (same_value (value c s t) (value c s (t - 1)))
-
-same_itself : (v : Value) → same_value v v ≡ true
-same_itself Zero = refl
-same_itself One = refl
-same_itself X = refl
-same_itself Z = refl
 
 module _ (c : Circuit) (s : ℕ) where
   later_times : (a k n : ℕ) → a < k → filter (λ t. (t == a) || changed c s t) (range_with_len k n) ≡ filter (changed c s) (range_with_len k n)
@@ -68,28 +61,6 @@ module _ (c : Circuit) (s : ℕ) where
 
   pub waves-are : WavesAreChanges c s
   waves-are = record { first = wave-first; empty = wave-empty; follow = changes-add; inside = changes-cell }
-
--- values that the test takes for one are one
-same_is : (v w : Value) → same_value v w ≡ true → v ≡ w
-same_is Zero Zero h = refl
-same_is One One h = refl
-same_is X X h = refl
-same_is Z Z h = refl
-same_is Zero One h = cc
-same_is Zero X h = cc
-same_is Zero Z h = cc
-same_is One Zero h = cc
-same_is One X h = cc
-same_is One Z h = cc
-same_is X Zero h = cc
-same_is X One h = cc
-same_is X Z h = cc
-same_is Z Zero h = cc
-same_is Z One h = cc
-same_is Z X h = cc
-
-other_is : (v w : Value) → same_value v w ≡ false → v ≢ w
-other_is v w h = λ e. let k : same_value v w ≡ true = ap (λ x. same_value v x) (sym e) ∙ same_itself v in absurd (cc (h, k))
 
 module _ (c : Circuit) (s : ℕ) where
   -- the changes go on from a run that has the value just before them

@@ -15,7 +15,8 @@ use Rattle.valid_intervals.specs.declared.Point.{Point}
 use Rattle.valid_intervals.specs.Cells.{point_cmp}
 use Rattle.claim_waiters.specs.Claims.{WaitedClaim, Claims, IsAtMost, claim_at, holder_in, waiters_of, first_of, with_claim, without_claim, with_waiter}
 use Rattle.claim_waiters.specs.inner.View.{at, claims_with, those_in, IsClaimTable}
-use Rattle.claim_waiters.proofs.Tables.{at-is, at-same, at-inserted, same-itself, put-back}
+use Rattle.valid_intervals.proofs.Same.{same_point-itself}
+use Rattle.claim_waiters.proofs.Tables.{at-is, at-same, at-inserted, put-back}
 
 -- no point of a list is p
 abbrev NoneIs : Point → List Point → Type 0
@@ -142,7 +143,7 @@ pub put-again : {X A E : Type 0} (r : Result A E) (old made new : List (Point ×
     → made ≡ insert_entry point_cmp old p u → IsSetAt old made p (Some u) → OnOk r (new ≡ insert_entry point_cmp made p v) → OnErr r (at made p ≡ None) → new ≡ old
 put-again (Ok x) old made new p u v order there is set ok err = ok ∙ ap (λ es. insert_entry point_cmp es p v) is ∙ put-back old p u v order there
 put-again (Err e) old made new p u v order there is set ok err =
-    let some : at made p ≡ Some u = set p ∙ rw (at-same p p ∙ same-itself p) refl in
+    let some : at made p ≡ Some u = set p ∙ rw (at-same p p ∙ same_point-itself p) refl in
     absurd (cc (some, err))
 
 module _ {W R : Type 0} (items : R → List W) where

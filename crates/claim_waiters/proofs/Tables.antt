@@ -14,6 +14,7 @@ use Rattle.std.proofs.lemmas.Map.{lookup-remove_entry}
 use Rattle.std.proofs.lemmas.Map.Keys.{IsDistinct-from_sorted, sorted_head, sorted_tail}
 use Rattle.valid_intervals.specs.declared.Point.{Point}
 use Rattle.valid_intervals.specs.Cells.{same_point, point_cmp}
+use Rattle.valid_intervals.proofs.Same.{same_point-true, same_point-itself}
 use Rattle.claim_waiters.specs.Claims.{WaitedClaim, Claims, IsInOrder, claim_at, holder_in, waiting_in, waiters_at, with_claim, without_claim, add_waiter, with_waiter}
 use Rattle.claim_waiters.specs.inner.View.{at}
 
@@ -27,23 +28,14 @@ at-same p x = grind (arith, nat_tests)
 pub at-back : (p x : Point) → is_at (point_cmp x) p ≡ same_point p x
 at-back p x = grind (arith, nat_tests)
 
-pub same-is : (p x : Point) → same_point p x ≡ true → p ≡ x
-same-is p x h =
-    let s : p.signal ≡ x.signal = grind (arith, nat_tests) in
-    let t : p.time ≡ x.time = grind (arith, nat_tests) in
-    ap (λ n. record { signal = n; time = p.time }) s ∙ ap (λ n. record { signal = x.signal; time = n }) t
-
-pub same-itself : (p : Point) → same_point p p ≡ true
-same-itself p = grind (arith, nat_tests)
-
 pub at-is : (p x : Point) → is_at (point_cmp p) x ≡ true → x ≡ p
-at-is p x h = sym (same-is p x (sym (at-same p x) ∙ h))
+at-is p x h = sym (same_point-true p x (sym (at-same p x) ∙ h))
 
 -- what comes later is no point of both
 later-apart : (p x y : Point) → point_cmp p y ≡ Greater → is_at (point_cmp x) y ≡ true → same_point p x ≡ true → ⊥
 later-apart p x y g h k =
     let xy : y ≡ x = at-is x y h in
-    let px : p ≡ x = same-is p x k in
+    let px : p ≡ x = same_point-true p x k in
     let e : point_cmp x x ≡ Greater = subst (λ z. point_cmp x z ≡ Greater) xy (subst (λ z. point_cmp z y ≡ Greater) px g) in
     grind (arith, nat_tests, e)
 
@@ -92,11 +84,11 @@ module _ {X : Type 0} where
 
   -- what comes and goes again leaves no trace
   pub removed-inserted : (es : List (Point × X)) (p : Point) (v : X) → at es p ≡ None → remove_entry (is_at (point_cmp p)) (insert_entry point_cmp es p v) ≡ es
-  removed-inserted [] p v n = rw (at-same p p ∙ same-itself p) refl
+  removed-inserted [] p v n = rw (at-same p p ∙ same_point-itself p) refl
   removed-inserted (e ∷ es) p v n =
       (elim (point_cmp p e.0) as (λ o. point_cmp p e.0 ≡ o → cond (is_eq o) (Some e.1) (at es p) ≡ None
       → remove_entry (is_at (point_cmp p)) (match_ordering o ((p, v) ∷ e ∷ es) ((e.0, v) ∷ es) (e ∷ insert_entry point_cmp es p v)) ≡ e ∷ es) [
-        | Less ↦ λ k m. rw (at-same p p ∙ same-itself p) refl
+        | Less ↦ λ k m. rw (at-same p p ∙ same_point-itself p) refl
         | Equal ↦ λ k m. absurd (cc m)
         | Greater ↦ λ k m. let f : is_at (point_cmp p) e.0 ≡ false = ap is_eq k in rw f (ap (λ l. e ∷ l) (removed-inserted es p v m))
       ]) refl n
@@ -218,7 +210,7 @@ module _ {W : Type 0} where
   pub waiters-claimed : (claims : Claims W) (q : ℕ) (p x : Point) → claim_at claims p ≡ None → waiters_at (with_claim claims q p) x ≡ waiters_at claims x
   waiters-claimed claims q p x n = elim (cases_Bool (same_point p x)) [
     | inl h ↦
-        let none : claim_at claims x ≡ None = subst (λ z. claim_at claims z ≡ None) (same-is p x h) n in
+        let none : claim_at claims x ≡ None = subst (λ z. claim_at claims z ≡ None) (same_point-true p x h) n in
         ap waiting_in (at-inserted claims p (record { q = q; waiters = [] }) x n) ∙ rw (h, none) refl
     | inr h ↦ ap waiting_in (at-inserted claims p (record { q = q; waiters = [] }) x n) ∙ rw h refl
   ]
@@ -229,7 +221,7 @@ module _ {W : Type 0} where
 
   pub waiters-waited : (claims : Claims W) (p : Point) (w : W) (x : Point) → IsSome (claim_at claims p) → waiters_at (with_waiter claims p w) x ≡ cond (same_point p x) (waiters_at claims p ++ w ∷ []) (waiters_at claims x)
   waiters-waited claims p w x some = ap waiting_in (at-waited claims p w x) ∙ (elim (cases_Bool (same_point p x)) [
-    | inl h ↦ rw (h, sym (same-is p x h)) (more (claim_at claims p) some)
+    | inl h ↦ rw (h, sym (same_point-true p x h)) (more (claim_at claims p) some)
     | inr h ↦ rw h refl
   ])
     where

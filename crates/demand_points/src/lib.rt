@@ -14,7 +14,7 @@
 //! budget.
 //!
 //! A claimed point takes 36 bytes on the stack. A step takes constant time, but for the base answers that it hears: each is a
-//! look-up in the design. Only `claimed` takes memory.
+//! look-up in the design. Only `take_claim` takes memory.
 //!
 //! ```
 //! let mut strand = Strand::<B>::start(alloc, 0, query, query.from, query.to, query.budget, 0);

@@ -1,6 +1,5 @@
 -- What the accessors answer, by the driver of the signal.
-use Rattle.std.proofs.Common.{◌≡◌, ℕ, zero, suc, ◌+◌, ◌<◌, ◌≤◌, min, true, List, [], ◌∷◌, map, fold, length, get_or, All, Option, Some, None, IsSome, refl, sym, ap, ap₂, ◌∙◌, subst, arith}
-use Rattle.std.specs.Prelude.{IfSome}
+use Rattle.std.proofs.Common.{◌≡◌, ℕ, zero, suc, ◌+◌, ◌<◌, ◌≤◌, min, true, List, [], ◌∷◌, map, length, get_or, All, None, IsSome, refl, sym, ap, ap₂, ◌∙◌, subst, arith}
 use Rattle.std.specs.Borrow.{Bor}
 use Rattle.std.specs.List.{AllByRecursion}
 use Rattle.std.proofs.Math.ListN.{length-map}
@@ -22,7 +21,7 @@ use Rattle.circuit_meaning.specs.Forward.{value, value_from, seen_value, flop_va
 use Rattle.circuit_meaning.specs.Cells.{span, span_from, least_delay, input_start, next_setting, looked_pins, pin_span, cell_at, point_at}
 use Rattle.circuit_meaning.specs.Need.{IsEvaluable, HasChildren}
 use Rattle.circuit_meaning.proofs.Equations.{value_is, span_is, all_imply}
-use Rattle.circuit_meaning.proofs.Steady.{seen-early, map_all, gate_span-early}
+use Rattle.circuit_meaning.proofs.Steady.{least, seen-early, map_all, gate_span-early}
 use Rattle.design.specs.declared.rows.SignalView.{SignalView as View}
 use Rattle.design.specs.declared.rows.SignalView.TheVariants as row
 use Rattle.design.specs.inner.KeptDesigns.{IsViewOf, driver_seen}
@@ -45,16 +44,6 @@ get_or-pins_with [] delays k d e l = absurd (omega arith)
 get_or-pins_with (s ∷ signals) [] k d e l = absurd (omega arith)
 get_or-pins_with (s ∷ signals) (x ∷ delays) zero d e l = refl
 get_or-pins_with (s ∷ signals) (x ∷ delays) (suc k) d e l = get_or-pins_with signals delays k d (omega arith) (omega arith)
-
--- the least delay is at most each
-fold-least : (m : ℕ) (pins : List Pin) → fold (λ m q. min m q.delay) m pins ≤ m × AllByRecursion (λ p. fold (λ m q. min m q.delay) m pins ≤ p.delay) pins
-fold-least m [] = (omega arith, tt)
-fold-least m (p ∷ pins) = let k = fold-least (min m p.delay) pins in (omega (arith, k.0), (omega (arith, k.0), k.1))
-
-least : (pins : List Pin) → AllByRecursion (λ p. least_delay pins ≤ p.delay) pins
-unfolding least_delay
-least [] = tt
-least (p ∷ pins) = fold-least p.delay pins
 
 cell-is : (x : Cell) (a : Span) (v : Value) → x.span ≡ a → x.value ≡ v → x ≡ record { span = a; value = v }
 cell-is x a v e f = ap₂ (λ (b : Span) (w : Value). record { span = b; value = w }) e f
@@ -115,10 +104,6 @@ module _ (c : Circuit) (ok : IsCircuit c) (s t limit : ℕ) (top : limit ≡ c.h
 
     pub flop-reads : read_by (driver c s) ≡ signals.now
     flop-reads = ap read_by src.driver ∙ sym src.fits
-
-pub if_some : {A : Type 0} (P Q : A → Type 0) → ((x : A) → P x → Q x) → (o : Option A) → IfSome o P → IfSome o Q
-if_some P Q f None h = h
-if_some P Q f (Some x) h = f x h
 
 -- the signals of pins are those of the circuit
 signals-within : (n : ℕ) (pins : List Pin) → AllByRecursion (λ p. p.signal < n) pins → AllByRecursion (λ x. x < n) (map (λ (p : Pin). p.signal) pins)

@@ -4,40 +4,14 @@ use Rattle.std.specs.Prelude.{All}
 use Rattle.std.specs.List.{AllByRecursion, dedup, dedup_from, remove}
 use Rattle.std.proofs.lemmas.List.Elements.{recursion_from_All, All-from_recursion}
 use Rattle.gate_values.specs.declared.Value.{Value}
-use Rattle.gate_values.specs.declared.Value.TheVariants.{Zero, One, X, Z}
+use Rattle.gate_values.specs.declared.Value.TheVariants.{X}
 use Rattle.gate_values.specs.Gates.{same_value}
+use Rattle.gate_values.proofs.Same.{same_is, other_is}
 use Rattle.circuit_meaning.specs.declared.Setting.{Setting}
 use Rattle.design.specs.inner.KeptDesigns.{InTimeOrder}
 use Rattle.design.specs.inner.Changes.{is_at_one_value, begins_with_x}
 use Rattle.design.specs.Join.{in_time_order, schedule_of, changes_from, changes_of}
 use Rattle.design.proofs.SortedSettings.{Climbs, climbs, order-from, in_order-rises, scheduled-all}
-
-pub same-is : (v w : Value) → same_value v w ≡ true → v ≡ w
-same-is Zero Zero h = refl
-same-is One One h = refl
-same-is X X h = refl
-same-is Z Z h = refl
-same-is Zero One h = cc
-same-is Zero X h = cc
-same-is Zero Z h = cc
-same-is One Zero h = cc
-same-is One X h = cc
-same-is One Z h = cc
-same-is X Zero h = cc
-same-is X One h = cc
-same-is X Z h = cc
-same-is Z Zero h = cc
-same-is Z One h = cc
-same-is Z X h = cc
-
-same-itself : (v : Value) → same_value v v ≡ true
-same-itself Zero = refl
-same-itself One = refl
-same-itself X = refl
-same-itself Z = refl
-
-other-is : (v w : Value) → same_value v w ≡ false → v ≢ w
-other-is v w h = λ e. let k : same_value v w ≡ true = ap (λ x. same_value v x) (sym e) ∙ same-itself v in absurd (cc (h, k))
 
 -- the first setting, and those that change its value
 deduped-changes : (k : Setting) (xs : List Setting) → dedup_from is_at_one_value k xs ≡ k ∷ changes_from k.value xs
@@ -55,7 +29,7 @@ changes-without [] ys e h = absurd (let k = ap begins_with_x (sym e) ∙ h in cc
 changes-without (x ∷ xs) ys e h =
     let is = e ∙ deduped-changes x xs in
     let first : same_value x.value X ≡ true = ap begins_with_x (sym is) ∙ h in
-    ap (λ (r : List Setting). remove r 0) is ∙ ap (λ v. changes_from v xs) (same-is x.value X first)
+    ap (λ (r : List Setting). remove r 0) is ∙ ap (λ v. changes_from v xs) (same_is x.value X first)
     ∙ sym (ap (λ b. cond b (changes_from X xs) (x ∷ changes_from x.value xs)) first)
 
 -- without a first setting to x nothing goes
@@ -91,7 +65,7 @@ changes-alternate v (x ∷ xs) = go (same_value x.value v) refl (changes-alterna
   where
     go : (b : Bool) → same_value x.value v ≡ b → Alternates v (changes_from v xs) → Alternates x.value (changes_from x.value xs) → Alternates v (cond b (changes_from v xs) (x ∷ changes_from x.value xs))
     go true e same next = same
-    go false e same next = (other-is x.value v e, next)
+    go false e same next = (other_is x.value v e, next)
 
 pub schedule-climbs : (xs : List Setting) → Climbs (schedule_of xs)
 schedule-climbs xs = climbs (in_time_order xs) (in_order-rises xs)

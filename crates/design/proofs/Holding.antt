@@ -1,7 +1,8 @@
 -- A design with signals held, over the design as it was joined.
-use Rattle.std.proofs.Common.{◌≡◌, ℕ, ◌<◌, Bool, true, false, ◌&&◌, ◌||◌, cond, List, [], ◌∷◌, length, get_or, set, filter, Option, Some, None, option_map, find, refl, sym, ap, ◌∙◌, subst, arith, inl, inr, get_or-set_other, get_or-set_same, length-set, eq-eqb}
+use Rattle.std.proofs.Common.{◌≡◌, ℕ, ◌<◌, Bool, true, false, ◌&&◌, ◌||◌, cond, List, [], ◌∷◌, length, get_or, set, filter, Option, Some, None, option_map, find, refl, sym, ap, ◌∙◌, subst, arith, inl, inr, get_or-set_other, get_or-set_same, length-set, eqb-true, eq-eqb}
 use Rattle.std.specs.Prelude.{nat_eq, is_none}
 use Rattle.std.specs.Borrow.{Bor}
+use Rattle.std.proofs.Math.Bool.{and-false}
 use Rattle.std.proofs.lemmas.Bool.{cases_lt}
 use Rattle.std.proofs.lemmas.List.{get_or_past}
 use Rattle.std.proofs.lemmas.List.Elements.{All-set}
@@ -19,7 +20,6 @@ use Rattle.design.specs.Joined.{IsDesign, Joined}
 use Rattle.design.specs.inner.KeptDesigns.{IsViewOf, InTimeOrder, FitsFrom, driver_seen}
 use Rattle.design.specs.inner.HeldSignals.{held_settings, held_circuit, value_of, held_design, open_readers, AreOpenReaders, IsHeldDesign}
 use Rattle.design.specs.inner.Walk.{has, list_at, AreReaders}
-use Rattle.design.proofs.Walked.{nat_eq-true}
 use Rattle.design.proofs.Reading.{read-it}
 
 -- the limits of a circuit do not depend on a signal being held
@@ -34,24 +34,16 @@ held-limits c s w l h =
     }
 
 has-filter : (p : ℕ → Bool) (xs : List ℕ) (x : ℕ) → has (filter p xs) x ≡ (p x && has xs x)
-has-filter p [] x = false-and (p x)
-  where
-    false-and : (b : Bool) → false ≡ (b && false)
-    false-and true = refl
-    false-and false = refl
+has-filter p [] x = sym (and-false (p x))
 has-filter p (y ∷ ys) x = go (has-filter p ys x) (p y) refl (nat_eq x y) refl
   where
     go : has (filter p ys) x ≡ (p x && has ys x) → (a : Bool) → p y ≡ a → (b : Bool) → nat_eq x y ≡ b → has (cond a (y ∷ filter p ys) (filter p ys)) x ≡ (p x && (b || has ys x))
-    go rest true e true f = ap (λ q. q || has (filter p ys) x) f ∙ sym (ap (λ q. q && (true || has ys x)) (ap p (nat_eq-true x y f) ∙ e))
+    go rest true e true f = ap (λ q. q || has (filter p ys) x) f ∙ sym (ap (λ q. q && (true || has ys x)) (ap p (eqb-true x y f) ∙ e))
     go rest true e false f = ap (λ q. q || has (filter p ys) x) f ∙ rest
     go rest false e true f =
-        let no : p x ≡ false = ap p (nat_eq-true x y f) ∙ e in
+        let no : p x ≡ false = ap p (eqb-true x y f) ∙ e in
         rest ∙ ap (λ q. q && has ys x) no ∙ sym (ap (λ q. q && (true || has ys x)) no)
     go rest false e false f = rest
-
-and-false : (b : Bool) → (b && false) ≡ false
-and-false true = refl
-and-false false = refl
 
 module _ (c : Circuit) where
   pub held-long : (held : List HeldSignal) → length (held_circuit c held).drivers ≡ length c.drivers
@@ -73,7 +65,7 @@ module _ (c : Circuit) where
     where
       go : driver (held_circuit c held) s ≡ driver_where (driver c s) (value_of held s) → (b : Bool) → nat_eq h.site s ≡ b → get_or (set (held_circuit c held).drivers h.site (Input (held_settings h.value))) s (Input []) ≡ driver_where (driver c s) (option_map (λ (x : HeldSignal). x.value) (cond b (Some h) (find (λ (x : HeldSignal). nat_eq x.site s) held)))
       go rest true e =
-          let same : h.site ≡ s = nat_eq-true h.site s e in
+          let same : h.site ≡ s = eqb-true h.site s e in
           ap (λ k. get_or (set (held_circuit c held).drivers h.site (Input (held_settings h.value))) k (Input [])) (sym same)
           ∙ get_or-set_same (held_circuit c held).drivers h.site (Input (held_settings h.value)) (Input []) (let n = held-long held in omega (arith, n, l, same))
       go rest false e =

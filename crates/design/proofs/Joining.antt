@@ -5,6 +5,7 @@ use Rattle.std.specs.Global.{Vec}
 use Rattle.std.specs.List.{range_with_len, AllByRecursion}
 use Rattle.std.specs.Str.{bytes_eq}
 use Rattle.std.proofs.lemmas.List.{length-map, get_or-map, ext_get_or}
+use Rattle.std.proofs.lemmas.Option.{IfSome_then}
 use Rattle.std.proofs.lemmas.List.Elements.{recursion_from_All}
 use Rattle.std.proofs.lemmas.List.FromFn.{length-map-range_with_len, get_or-map-range_with_len, fill_by_all}
 use Rattle.gate_values.specs.declared.Kind.{Kind}
@@ -24,10 +25,10 @@ use Rattle.circuit_meaning.specs.Cells.{least_delay}
 use Rattle.bench_reader.specs.Netlists as netlists
 use Rattle.bench_reader.specs.Netlists.{NetlistDriver, Primary, Driven, pins_of, IsNetlist}
 use Rattle.timing_file.specs.Timing as timings
-use Rattle.timing_file.specs.Timing.{default_of, kind_delay}
-use Rattle.timing_file.specs.Subjects.{same_kind}
+use Rattle.timing_file.specs.Timing.{default_of}
 use Rattle.timing_file.specs.Ranges.{IsTiming, IsDelay, IsWithin}
 use Rattle.timing_file.specs.declared.TimingRow.{TimingRow}
+use Rattle.timing_file.proofs.Within.{default-within}
 use Rattle.timing_file.specs.declared.ClockRow.{ClockRow}
 use Rattle.timing_file.specs.declared.TimingWhat.{TimingWhat}
 use Rattle.timing_file.specs.declared.TimingWhat.TheVariants as what
@@ -45,7 +46,7 @@ use Rattle.design.specs.declared.fault.JoinFault.{JoinFault}
 use Rattle.design.specs.declared.fault.JoinFile.TheVariants as file
 use Rattle.design.specs.declared.fault.JoinCause.TheVariants.{NotInput, PastHorizon}
 use Rattle.stimulus_file.specs.Ranges.{IsStimulus}
-use Rattle.design.proofs.Answered.{length-pins_with, get_or-pins_with, if_some}
+use Rattle.design.proofs.Answered.{length-pins_with, get_or-pins_with}
 use Rattle.design.proofs.Places.{within, stands, one-within, one-stands, alone-at}
 use Rattle.design.proofs.Rowed.{row-sound}
 use Rattle.design.proofs.SortedSettings.{order-differs}
@@ -128,14 +129,6 @@ module _ (netlist : netlists.Content) (timing : timings.Content) (ok : IsTiming 
   ranges : AllByRecursion (λ (r : TimingRow). IsWithin r.what) timing.rows
   ranges = recursion_from_All (λ (r : TimingRow). IsWithin r.what) timing.rows ok.rows
 
-  kinds-some : (kind : Kind) (kinds : List (Kind × ℕ)) → AllByRecursion (λ (stated : Kind × ℕ). IsDelay stated.1) kinds → IfSome (kind_delay kind kinds) IsDelay
-  kinds-some kind [] h = tt
-  kinds-some kind (stated ∷ kinds) h = elim (same_kind stated.0 kind) as (λ b. IfSome (cond b (Some stated.1) (kind_delay kind kinds)) IsDelay) [ true ↦ h.0 | false ↦ kinds-some kind kinds h.1 ]
-
-  default-range : (kind : Kind) → IsDelay (default_of timing kind)
-  default-range kind = unwrap-some IsDelay (kind_delay kind timing.kinds) (unwrap_or timing.default 1) (kinds-some kind timing.kinds (recursion_from_All (λ (stated : Kind × ℕ). IsDelay stated.1) timing.kinds ok.kinds))
-      (unwrap-some IsDelay timing.default 1 ok.default (omega arith, omega arith))
-
   delay-in : (w : TimingWhat) → IsWithin w → IfSome (delay_said w) IsDelay
   delay-in (what.Delay d) h = h
   delay-in (what.Init v) h = tt
@@ -171,7 +164,7 @@ module _ (netlist : netlists.Content) (timing : timings.Content) (ok : IsTiming 
   initial-range s = unwrap-some (λ (v : Value). v ≢ Z) (rows_say netlist timing.rows s initial_said) X (rows-some (λ (v : Value). v ≢ Z) netlist timing.rows s initial_said initial-in ranges) (λ e. cc e)
 
   pub delay-range : (s : ℕ) (kind : Kind) → IsDelay (delay_of netlist timing s kind)
-  delay-range s kind = unwrap-some IsDelay (rows_say netlist timing.rows s delay_said) (default_of timing kind) (rows-some IsDelay netlist timing.rows s delay_said delay-in ranges) (default-range kind)
+  delay-range s kind = unwrap-some IsDelay (rows_say netlist timing.rows s delay_said) (default_of timing kind) (rows-some IsDelay netlist timing.rows s delay_said delay-in ranges) (default-within timing kind ok)
 
   pub pin-range : (s : ℕ) (kind : Kind) (k : ℕ) → IsDelay (pin_delay netlist timing s kind k)
   pin-range s kind k = unwrap-some IsDelay (rows_say netlist timing.rows s (pin_said k)) (delay_of netlist timing s kind) (rows-some IsDelay netlist timing.rows s (pin_said k) (pin-in k) ranges) (delay-range s kind)
@@ -241,7 +234,7 @@ module _ (netlist : netlists.Content) (timing : timings.Content) (stimulus : sti
   gate-sound s true kind pins ok = record {
     pin = ok.signal 0 0 (let some = allows-some kind (length pins) ok.count in omega (arith, some));
     delay = (delay-range netlist timing t-ok s Dff).0;
-    period = if_some IsClock (λ (clock : Clock). 1 ≤ clock.period) (λ clock k. k.some) (or_else (rows_say netlist timing.rows s (clock_said timing)) timing.clock) (clock-range netlist timing t-ok s);
+    period = IfSome_then (or_else (rows_say netlist timing.rows s (clock_said timing)) timing.clock) (clock-range netlist timing t-ok s) (λ (clock : Clock) k. k.some);
     initial = initial-range netlist timing t-ok s;
   }
   gate-sound s false kind pins ok =

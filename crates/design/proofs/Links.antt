@@ -1,15 +1,14 @@
 -- Readers kept as links.
 use Rattle.std.proofs.Common.{◌≡◌, ℕ, zero, suc, ◌+◌, ◌-◌, ◌<◌, ◌≤◌, Bool, false, eq-eqb, List, [], ◌∷◌, ◌++◌, length, get_or, set, map, refl, sym, ap, ap₂, ◌∙◌, subst, arith, inl, inr, length-set}
 use Rattle.std.specs.Prelude.{nat_eq, replicate, if◌then◌else◌}
-use Rattle.std.proofs.lemmas.Bool.{cases_lt, cases_eq}
+use Rattle.std.proofs.lemmas.Bool.{cases_lt, cases_eq, ne_eqb}
 use Rattle.std.proofs.lemmas.List.{get_or_append_left, get_or_push, length_push, get_or-set_same, get_or-set_other, get_or-map, map-set, append_assoc, append-nil, length-map}
 use Rattle.design.specs.declared.readers.Link.{Link}
 use Rattle.design.specs.inner.Links.{link_at, readers_from, lists_of, AreLinks}
 use Rattle.design.specs.inner.Walk.{list_at}
-use Rattle.design.proofs.Walked.{known, nat_eq-true}
 
 apart : (a b : ℕ) → a < b → nat_eq a b ≡ false
-apart a b l = elim (known (nat_eq a b)) [ inl e ↦ absurd (let k = nat_eq-true a b e in omega (arith, k, l)) | inr e ↦ e ]
+apart a b l = ne_eqb a b (λ e. omega (arith, e, l))
 
 -- one case of the definition
 abbrev from : List Link → ℕ → ℕ → Bool → List ℕ

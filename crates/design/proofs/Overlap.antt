@@ -1,14 +1,13 @@
 -- The interval of a cell, from what its looked pins have in common.
-use Rattle.std.proofs.Common.{◌≡◌, ℕ, zero, suc, ◌+◌, ◌-◌, ◌≤◌, Bool, true, false, cond, nat_lt, List, [], ◌∷◌, map, fold, take, length, get_or, Option, Some, None, IsSome, IsNone, refl, sym, ap, ap₂, ◌∙◌, subst, arith}
+use Rattle.std.proofs.Common.{◌≡◌, ℕ, zero, suc, ◌+◌, ◌-◌, ◌≤◌, Bool, true, false, cond, List, [], ◌∷◌, map, fold, take, length, get_or, Option, Some, None, IsSome, IsNone, refl, sym, ap, ap₂, ◌∙◌, subst, arith}
 use Rattle.std.specs.Borrow.{Bor}
-use Rattle.std.specs.List.{range_with_len, AllByRecursion}
+use Rattle.std.specs.List.{range_with_len}
 use Rattle.std.proofs.lemmas.List.{length-map, take_all}
-use Rattle.gate_values.specs.declared.Value.TheVariants.{X}
+use Rattle.std.proofs.lemmas.Simd.{map-map}
 use Rattle.gate_values.specs.declared.Kind.{Kind}
 use Rattle.gate_values.specs.declared.Kind.TheVariants.{Dff}
 use Rattle.gate_values.specs.Gates.{up_to_first, decides}
 use Rattle.gate_values.proofs.Pins.{allows-some}
-use Rattle.gate_values.proofs.Looked.{cut_alike, map-up_to_first}
 use Rattle.valid_intervals.specs.declared.Point.{Point}
 use Rattle.valid_intervals.specs.Spans.{Span, from_to, meet, cut_at}
 use Rattle.flip_flops.specs.Edges.{shown_edge}
@@ -21,18 +20,10 @@ use Rattle.circuit_meaning.specs.Need.{IsEvaluable, HasChildren}
 use Rattle.circuit_meaning.specs.Looks.{kind_of, pin_point, flop_points, pin_points_at, sees, looked_points, no_pin, interval_at, pin_interval, met_interval}
 use Rattle.circuit_meaning.proofs.Cover.{cell-covers}
 use Rattle.circuit_meaning.proofs.Meets.{met-all, gate-span}
-use Rattle.circuit_meaning.proofs.Looking.{cut-take}
+use Rattle.circuit_meaning.proofs.Looking.{cut-sources, cut-take, cut-whole}
 use Rattle.design.specs.declared.rows.SignalView.TheVariants as row
 use Rattle.design.specs.inner.KeptDesigns.{IsViewOf}
 use Rattle.design.specs.KeptDesigns.{pins_with}
-
-all_of : {A : Type 0} (P : A → Type 0) → ((a : A) → P a) → (xs : List A) → AllByRecursion P xs
-all_of P h [] = tt
-all_of P h (x ∷ xs) = (h x, all_of P h xs)
-
-map-map : {A B C : Type 0} (f : B → C) (g : A → B) (xs : List A) → map f (map g xs) ≡ map (λ a. f (g a)) xs
-map-map f g [] = refl
-map-map f g (x ∷ xs) = ap (λ rest. f (g x) ∷ rest) (map-map f g xs)
 
 -- the elements by their places are the list
 module _ {A B : Type 0} (f : A → B) (d : A) where
@@ -43,17 +34,8 @@ module _ {A B : Type 0} (f : A → B) (d : A) where
       ap₂ (λ (y : B) (ys : List B). y ∷ ys) (ap f (let e : a + 0 ≡ a = omega arith in subst (λ m. g m ≡ x) e (h 0)))
       (by-place xs g (a + 1) n (omega arith) (λ k. let e : a + suc k ≡ a + 1 + k = omega arith in subst (λ m. g m ≡ get_or xs k d) e (h (suc k))))
 
-sees-source : (c : Circuit) (t : ℕ) (p : Pin) → sees c (pin_point t p) ≡ seen_value (value c) t p
-sees-source c t p = elim (nat_lt t p.delay) as (λ b. sees c (cond b None (Some (record { signal = p.signal; time = t - p.delay }))) ≡ cond b X (value c p.signal (t - p.delay))) [ true ↦ refl | false ↦ refl ]
-
 length-cut : (c : Circuit) (t : ℕ) (kind : Kind) (pins : List Pin) → length (up_to_first (λ o. decides kind (sees c o)) (map (pin_point t) pins)) ≡ length (looked_pins c t kind pins)
-length-cut c t kind pins =
-    ap length (sym (map-up_to_first (λ o. decides kind (sees c o)) (pin_point t) pins)) ∙ length-map (up_to_first (λ p. decides kind (sees c (pin_point t p))) pins) (pin_point t)
-    ∙ ap length (sym (cut_alike (decides kind) (λ p. sees c (pin_point t p)) (seen_value (value c) t) pins (all_of (λ p. sees c (pin_point t p) ≡ seen_value (value c) t p) (sees-source c t) (up_to_first (λ p. decides kind (sees c (pin_point t p))) pins))))
-
-cut-le : {A : Type 0} (test : A → Bool) (xs : List A) → length (up_to_first test xs) ≤ length xs
-cut-le test [] = omega arith
-cut-le test (x ∷ xs) = elim (test x) as (λ b. length (x ∷ cond b [] (up_to_first test xs)) ≤ length (x ∷ xs)) [ true ↦ omega arith | false ↦ let k = cut-le test xs in omega arith ]
+length-cut c t kind pins = ap length (sym (cut-sources c t kind pins)) ∙ length-map (looked_pins c t kind pins) (pin_point t)
 
 -- the meet with all times adds nothing
 whole-first : (limit : ℕ) (x : Span) → limit ≤ 2000002 → meet (from_to 0 2000002) (cut_at limit x) ≡ cut_at limit x
@@ -75,9 +57,6 @@ module _ (c : Circuit) (ok : IsCircuit c) (s t limit : ℕ) (top : limit ≡ c.h
     passed : m ≤ t
     passed = let k : least_delay pins ≤ t = subst (HasChildren t) src.driver asks in let e = src.fits.1 in omega (arith, e, k)
 
-    pub gate-passed : m ≤ t
-    gate-passed = passed
-
     -- the intervals of the looked pins
     parts : map (pin_interval c s t) (range_with_len 0 (length (looked_points c s t))) ≡ map (cut_at (c.horizon + 1)) (map (pin_span (span c) t) (looked_pins c t kind pins))
     parts =
@@ -86,7 +65,7 @@ module _ (c : Circuit) (ok : IsCircuit c) (s t limit : ℕ) (top : limit ≡ c.h
         let part : Pin → Span = λ p. cut_at (c.horizon + 1) (pin_span (span c) t p) in
         ap (λ d. map (interval_at c s t d) (range_with_len 0 (length (looked_points c s t)))) src.driver
         ∙ ap (λ l. map (λ k. part (get_or pins k no_pin)) (range_with_len 0 l)) (ap (λ d. length (up_to_first (λ o. decides (kind_of d) (sees c o)) (pin_points_at t d))) src.driver ∙ length-cut c t kind pins)
-        ∙ by-place part no_pin pins (λ k. get_or pins k no_pin) 0 n (cut-le (λ p. decides kind (seen_value (value c) t p)) pins) (λ k. ap (λ j. get_or pins j no_pin) (omega arith))
+        ∙ by-place part no_pin pins (λ k. get_or pins k no_pin) 0 n (cut-whole (λ p. decides kind (seen_value (value c) t p)) pins) (λ k. ap (λ j. get_or pins j no_pin) (omega arith))
         ∙ ap (map part) (sym (cut-take (λ p. decides kind (seen_value (value c) t p)) pins n (omega arith)))
         ∙ ap (map part) (take_all n cut (omega arith))
         ∙ sym (map-map (cut_at (c.horizon + 1)) (pin_span (span c) t) cut)
@@ -100,7 +79,7 @@ module _ (c : Circuit) (ok : IsCircuit c) (s t limit : ℕ) (top : limit ≡ c.h
         ap₂ (λ (xs : List Span) (n : ℕ). meet (fold meet (from_to 0 2000002) xs) (from_to m n)) parts top
         ∙ met-parts m (c.horizon + 1) spans (omega (arith, top, small)) some-part
         ∙ ap (λ n. fold meet (from_to n (c.horizon + 1)) spans) src.fits.1
-        ∙ sym (gate-span c ok s t kind pins src.driver (let e = src.fits.1 in let l = gate-passed in omega (arith, e, l)))
+        ∙ sym (gate-span c ok s t kind pins src.driver (let e = src.fits.1 in let l = passed in omega (arith, e, l)))
 
     module _ (a b : Span) (e : a ≡ met_interval c s t (length (looked_points c s t))) (f : b ≡ from_to m limit) where
       pub gate-over : meet a b ≡ span c s t

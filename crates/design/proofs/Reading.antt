@@ -1,14 +1,13 @@
 -- The readers of each signal, one reader after another.
-use Rattle.std.proofs.Common.{◌≡◌, ℕ, ◌+◌, ◌<◌, Bool, true, false, ◌&&◌, ◌||◌, eq-eqb, List, [], ◌∷◌, ◌++◌, length, take, get_or, set, refl, sym, ap, ◌∙◌, subst, arith, inl, inr, length-set}
+use Rattle.std.proofs.Common.{◌≡◌, ℕ, ◌+◌, ◌<◌, Bool, true, false, ◌&&◌, ◌||◌, eqb-true, eq-eqb, List, [], ◌∷◌, ◌++◌, length, take, get_or, set, refl, sym, ap, ◌∙◌, subst, arith, inl, inr, length-set}
 use Rattle.std.specs.Prelude.{nat_eq}
 use Rattle.std.specs.List.{AllByRecursion}
-use Rattle.std.proofs.lemmas.Bool.{cases_lt}
+use Rattle.std.proofs.lemmas.Bool.{cases_lt, or_left, or_right}
 use Rattle.std.proofs.lemmas.List.{get_or-set_same, get_or-set_other, get_or_past, take_more}
 use Rattle.std.proofs.lemmas.List.Elements.{All-from_recursion}
 use Rattle.std.proofs.lemmas.List.Folds.{list_any-append}
 use Rattle.circuit_meaning.specs.Circuit.{Circuit, Input, driver, read_by}
 use Rattle.design.specs.inner.Walk.{has, list_at, AddsReader, ReadIt}
-use Rattle.design.proofs.Walked.{or-left, or-right, nat_eq-true}
 
 pub adds-none : (reader : ℕ) (lists : List (List ℕ)) → AddsReader reader [] lists lists
 adds-none reader lists = record { long = refl; each = λ u x l. none (has (list_at lists u) x) (nat_eq x reader) }
@@ -46,7 +45,7 @@ adds-more reader reads r was lists adds l = record {
 
     go : (u x : ℕ) → u < length was → (c : Bool) → nat_eq u r ≡ c → has (list_at (set lists r (reader ∷ list_at lists r)) u) x ≡ (has (list_at was u) x || nat_eq x reader && has (reads ++ r ∷ []) u)
     go u x m true h =
-        let same : u ≡ r = nat_eq-true u r h in
+        let same : u ≡ r = eqb-true u r h in
         ap (λ k. has (list_at (set lists r (reader ∷ list_at lists r)) k) x) same ∙ ap (λ xs. has xs x) (get_or-set_same lists r (reader ∷ list_at lists r) [] within)
         ∙ ap (λ k. nat_eq x reader || has (list_at lists k) x) (sym same)
         ∙ ap (λ a. nat_eq x reader || a) (adds.each u x m)
@@ -68,7 +67,7 @@ adds-next reader reads i was lists lists' adds l in' e =
 -- what holds of each x that a list has, holds of all its items
 all-has : (P : ℕ → Type 0) (xs : List ℕ) → ((x : ℕ) → has xs x ≡ true → P x) → AllByRecursion P xs
 all-has P [] h = tt
-all-has P (y ∷ ys) h = (h y (or-left (nat_eq y y) (has ys y) (eq-eqb y y refl)), all-has P ys (λ x k. h x (or-right (nat_eq x y) (has ys x) k)))
+all-has P (y ∷ ys) h = (h y (or_left (nat_eq y y) (has ys y) (eq-eqb y y refl)), all-has P ys (λ x k. h x (or_right (nat_eq x y) (has ys x) k)))
 
 -- what reads a signal is a signal
 pub read-it : (c : Circuit) (u : ℕ) (readers : List ℕ) → ((x : ℕ) → has readers x ≡ has (read_by (driver c x)) u) → ReadIt c u readers

@@ -9,12 +9,13 @@ use Rattle.gate_values.specs.Gates.{same_value}
 use Rattle.circuit_meaning.specs.declared.Setting.{Setting}
 use Rattle.circuit_meaning.specs.Forward.{later, last_setting, input_value}
 use Rattle.circuit_meaning.specs.Cells.{next_setting, input_start}
-use Rattle.circuit_meaning.proofs.Inputs.{last-steady}
+use Rattle.circuit_meaning.proofs.Inputs.{next-here, next-passed, last-steady}
 use Rattle.design.specs.Join.{schedule_of, changes_from, changes_of}
 use Rattle.design.specs.Laws.{RepeatsAreFree, set_value}
 use Rattle.design.proofs.SortedSettings.{Climbs}
 use Rattle.design.proofs.SettingOrder.{order-is-free}
-use Rattle.design.proofs.ChangedSettings.{Alternates, same-is, changes-all, changes-climb, changes-alternate, schedule-climbs}
+use Rattle.gate_values.proofs.Same.{same_is}
+use Rattle.design.proofs.ChangedSettings.{Alternates, changes-all, changes-climb, changes-alternate, schedule-climbs}
 
 -- what the last setting gives, or else the value before all settings
 abbrev given : Value → Option Setting → Value
@@ -79,7 +80,7 @@ kept-value v (x ∷ xs) t up = go (same_value x.value v) refl (kept-value v xs t
     go : (b : Bool) → same_value x.value v ≡ b → value_after v (changes_from v xs) t ≡ value_after v xs t → value_after x.value (changes_from x.value xs) t ≡ value_after x.value xs t
         → (t < x.time) ⊎ (x.time ≤ t) → value_after v (cond b (changes_from v xs) (x ∷ changes_from x.value xs)) t ≡ value_after v (x ∷ xs) t
     go true e same next (inl l) = same ∙ ap (given v) (none-yet x.time t xs (omega (arith, l)) up.0) ∙ sym (given-early x xs up.0 t v l)
-    go true e same next (inr l) = same ∙ ap (λ w. value_after w xs t) (sym (same-is x.value v e)) ∙ sym (given-late x xs up.0 t v l)
+    go true e same next (inr l) = same ∙ ap (λ w. value_after w xs t) (sym (same_is x.value v e)) ∙ sym (given-late x xs up.0 t v l)
     go false e same next (inl l) = given-early x (changes_from x.value xs) (changes-all (λ y. x.time < y.time) x.value xs up.0) t v l ∙ sym (given-early x xs up.0 t v l)
     go false e same next (inr l) = given-late x (changes_from x.value xs) (changes-all (λ y. x.time < y.time) x.value xs up.0) t v l ∙ next ∙ sym (given-late x xs up.0 t v l)
 
@@ -121,14 +122,6 @@ next-later t limit (x ∷ xs) = elim (cases_lt t x.time) [
   | inr l ↦ rw (le-ltb t x.time l) (next-later t limit xs)
 ]
 
-next-early : (x : Setting) (xs : List Setting) (t limit : ℕ) → t < x.time → next_setting (x ∷ xs) t limit ≡ min x.time (next_setting xs t limit)
-unfolding next_setting
-next-early x xs t limit l = rw (lt-ltb t x.time l) refl
-
-next-late : (x : Setting) (xs : List Setting) (t limit : ℕ) → x.time ≤ t → next_setting (x ∷ xs) t limit ≡ next_setting xs t limit
-unfolding next_setting
-next-late x xs t limit l = rw (le-ltb t x.time l) refl
-
 -- from the next setting on the value is another
 after-stop : (v : Value) (xs : List Setting) (t u limit : ℕ) → Climbs xs → Alternates v xs → u ≡ next_setting xs t limit → u < limit → value_after v xs u ≢ value_after v xs t
 after-stop v [] t u limit up alt e l = unfold next_setting in absurd (omega (arith, e, l))
@@ -136,13 +129,13 @@ after-stop v (x ∷ xs) t u limit up alt e l = go (λ next. after-stop x.value x
   where
     go : (u ≡ next_setting xs t limit → value_after x.value xs u ≢ value_after x.value xs t) → (t < x.time) ⊎ (x.time ≤ t) → value_after v (x ∷ xs) u ≢ value_after v (x ∷ xs) t
     go again (inl k) = λ q.
-        let next = e ∙ next-early x xs t limit k in
+        let next = e ∙ next-here x xs t limit k in
         let low = next-low x.time t limit xs up.0 in
         let is : u ≡ x.time = omega (arith, next, low, l) in
         let high = given-late x xs up.0 u v (omega (arith, is)) ∙ ap (given x.value) (none-yet x.time u xs (omega (arith, is)) up.0) in
         alt.0 (sym high ∙ q ∙ given-early x xs up.0 t v k)
     go again (inr k) = λ q.
-        let next = e ∙ next-late x xs t limit k in
+        let next = e ∙ next-passed x xs t limit k in
         let low = next-later t limit xs in
         again next
         (sym (given-late x xs up.0 u v (omega (arith, next, low, l, k))) ∙ q ∙ given-late x xs up.0 t v k)

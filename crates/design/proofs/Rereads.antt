@@ -101,10 +101,6 @@ pub takes-row : (netlist : netlists.Content) (timing : timings.Content) (before 
 takes-row netlist timing before row stated (Ok x) none has oom = (none, has)
 takes-row netlist timing before row stated (Err fault) none has oom = inl oom
 
-pub on-ok : {T E : Type 0} (P Q : Type 0) → (P → Q) → (r : Result T E) → OnOk r P → OnOk r Q
-on-ok P Q f (Ok x) h = f h
-on-ok P Q f (Err e) h = tt
-
 -- the first row at fault, or none so far
 pub refused-at : {R : Type 0} (fault : R → Option JoinFault) (rows : List R) (i : ℕ) (row : R) (f : JoinFault) → i < length rows → row ≡ get_or rows i row → first_fault fault rows ≡ first_fault fault (drop i rows)
     → (f ≡ out_of_memory) ⊎ (fault row ≡ Some f) → (f ≡ out_of_memory) ⊎ (first_fault fault rows ≡ Some f)

@@ -6,7 +6,7 @@ use Rattle.std.proofs.lemmas.List.Filters.{All-dedup}
 use Rattle.std.specs.List.Sorted.{ties, IsNonDecreasingBy, IsStableByKey}
 use Rattle.std.specs.Ordering.{is_lt}
 use Rattle.std.specs.declared.cmp.Ordering.TheVariants.{Equal, Greater}
-use Rattle.std.proofs.lemmas.Bool.{cases_lt, lt-leb}
+use Rattle.std.proofs.lemmas.Bool.{cases_Bool, cases_lt, lt-leb}
 use Rattle.std.proofs.lemmas.List.Elements.{recursion_from_All, All-from_recursion}
 use Rattle.circuit_meaning.specs.declared.Setting.{Setting}
 use Rattle.design.specs.inner.KeptDesigns.{InTimeOrder}
@@ -64,10 +64,6 @@ rise-alike [] (y ∷ ys) up vp e = absurd (let k = e y ∙ passes y y ys (same-y
 rise-alike (x ∷ xs) [] up vp e = absurd (let k = sym (e x) ∙ passes x x xs (same-yes x x refl) in cc k)
 rise-alike (x ∷ xs) (y ∷ ys) up vp e = go (λ h. rise-alike xs ys up.1 vp.1 h) (cases_lt x.time y.time) (cases_lt y.time x.time)
   where
-    known : (b : Bool) → (b ≡ true) ⊎ (b ≡ false)
-    known true = inl refl
-    known false = inr refl
-
     tail : x ≡ y → (z : Setting) → (same z x ≡ true) ⊎ (same z x ≡ false) → filter (same z) xs ≡ filter (same z) ys
     tail first z (inl p) = let k : x ∷ filter (same z) xs ≡ y ∷ filter (same z) ys = sym (passes z x xs p) ∙ e z ∙ passes z y ys (ap (same z) (sym first) ∙ p) in cc k
     tail first z (inr p) = sym (fails z x xs p) ∙ e z ∙ fails z y ys (ap (same z) (sym first) ∙ p)
@@ -78,7 +74,7 @@ rise-alike (x ∷ xs) (y ∷ ys) up vp e = go (λ h. rise-alike xs ys up.1 vp.1 
     go again (inr l) (inr m) =
         let k : x ∷ filter (same x) xs ≡ y ∷ filter (same x) ys = sym (passes x x xs (same-yes x x refl)) ∙ e x ∙ passes x y ys (same-yes x y (omega arith)) in
         let first : x ≡ y = cc k in
-        ap₂ (λ (a : Setting) (more : List Setting). a ∷ more) first (again (λ z. tail first z (known (same z x))))
+        ap₂ (λ (a : Setting) (more : List Setting). a ∷ more) first (again (λ z. tail first z (cases_Bool (same z x))))
 
 module _ (P : Setting → Type 0) where
   placed-all : (s : Setting) (xs : List Setting) → P s → AllByRecursion P xs → AllByRecursion P (with_setting s xs)
@@ -117,12 +113,8 @@ apart z s x l h = go (cases_lt z.time x.time) (cases_lt x.time z.time)
 
 placed-stable : (z s : Setting) (xs : List Setting) → filter (same z) (with_setting s xs) ≡ filter (same z) (s ∷ xs)
 placed-stable z s [] = refl
-placed-stable z s (x ∷ xs) = go (placed-stable z s xs) (cases_lt x.time s.time) (known (same z x))
+placed-stable z s (x ∷ xs) = go (placed-stable z s xs) (cases_lt x.time s.time) (cases_Bool (same z x))
   where
-    known : (b : Bool) → (b ≡ true) ⊎ (b ≡ false)
-    known true = inl refl
-    known false = inr refl
-
     go : filter (same z) (with_setting s xs) ≡ filter (same z) (s ∷ xs) → (x.time < s.time) ⊎ (s.time ≤ x.time) → (same z x ≡ true) ⊎ (same z x ≡ false) → filter (same z) (with_setting s (x ∷ xs)) ≡ filter (same z) (s ∷ x ∷ xs)
     go again (inr l) _ = ap (λ b. filter (same z) (cond b (s ∷ x ∷ xs) (x ∷ with_setting s xs))) (le-leb s.time x.time l)
     go again (inl l) (inl p) =

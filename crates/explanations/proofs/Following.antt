@@ -24,12 +24,12 @@ use Rattle.batch_meaning.specs.Lawful.{IsLawful}
 use Rattle.journal_meaning.specs.declared.Entry.{Entry}
 use Rattle.session_meaning.specs.Explanations.{Tells, IsBefore}
 use Rattle.plan_machine.proofs.Underway.{contains-cases}
+use Rattle.plan_machine.proofs.Settle.{evaluable-signal}
 use Rattle.why_proofs.specs.Justified.{base_or, line_at, answer, AreAnswered, IsJustified, AreJustified}
 use Rattle.why_proofs.specs.Laws.{IsTrueLine}
 use Rattle.why_proofs.specs.inner.Known.{IsKnown}
 use Rattle.why_proofs.proofs.Sound.{AreRight, answer-right, rule-right}
 use Rattle.why_proofs.proofs.Sources.{known-all}
-use Rattle.asked_cells.proofs.Pins.{evaluable-signal}
 use Rattle.explanations.specs.declared.waiting.LinePlace.{LinePlace}
 use Rattle.explanations.specs.declared.waiting.Asked.{Asked}
 use Rattle.explanations.specs.inner.Waiting.{Places}

@@ -17,13 +17,13 @@ use Rattle.batch_meaning.specs.declared.Query.{Query}
 use Rattle.batch_meaning.specs.Batches.{Batch, IsNeededBy}
 use Rattle.batch_meaning.specs.Lawful.{IsLawful}
 use Rattle.journal_meaning.specs.declared.Entry.{Entry}
+use Rattle.journal_meaning.proofs.Lists.{contains-one}
 use Rattle.session_meaning.specs.Explanations.{IsBefore}
 use Rattle.pin_walks.specs.PinWalks.{IsPoint}
 use Rattle.plan_machine.proofs.Steps.{wanted-time}
-use Rattle.plan_machine.proofs.Settle.{child-needed}
-use Rattle.plan_machine.proofs.Underway.{contains-one, contains-cases, contains-none}
+use Rattle.plan_machine.proofs.Settle.{evaluable-signal, child-needed}
+use Rattle.plan_machine.proofs.Underway.{contains-cases, contains-none}
 use Rattle.why_proofs.proofs.Sound.{steady}
-use Rattle.asked_cells.proofs.Pins.{evaluable-signal}
 use Rattle.explanations.specs.declared.waiting.LinePlace.{LinePlace}
 use Rattle.explanations.specs.declared.waiting.Asked.{Asked}
 use Rattle.explanations.specs.inner.Waiting.{IsBelow, line_of, point_of, place_of, Places, TakesLast}

@@ -1,16 +1,15 @@
 -- What a point looks at, at another time of its cell: the same pins, whose sources lie in the same cells.
-use Rattle.std.proofs.Common.{◌≡◌, ℕ, zero, suc, ◌-◌, ◌+◌, ◌<◌, ◌≤◌, nat_lt, true, false, cond, List, [], ◌∷◌, map, fold, get_or, Contains, Option, Some, None, IfSome, refl, sym, ap, subst, ◌∙◌, arith, inl, inr, lt-ltb, le-ltb}
+use Rattle.std.proofs.Common.{◌≡◌, ℕ, zero, suc, ◌-◌, ◌+◌, ◌<◌, ◌≤◌, nat_lt, List, [], ◌∷◌, map, get_or, Contains, Option, Some, None, IfSome, refl, sym, ap, subst, ◌∙◌, arith, inl, inr, lt-ltb, le-ltb}
 use Rattle.std.specs.List.{AllByRecursion}
 use Rattle.std.proofs.lemmas.Bool.{cases_lt}
 use Rattle.std.proofs.lemmas.List.Elements.{All-contains, recursion_from_All}
-use Rattle.gate_values.specs.declared.Value.TheVariants.{X}
 use Rattle.gate_values.specs.declared.Kind.{Kind}
 use Rattle.gate_values.specs.declared.Kind.TheVariants.{Dff}
 use Rattle.gate_values.specs.Gates.{decides, up_to_first}
 use Rattle.gate_values.proofs.Looked.{cut_alike, map-up_to_first}
 use Rattle.valid_intervals.specs.declared.Cell.{Cell}
 use Rattle.valid_intervals.specs.declared.Point.{Point}
-use Rattle.valid_intervals.specs.Spans.{Span, IsIn, from_to, meet}
+use Rattle.valid_intervals.specs.Spans.{Span, IsIn, from_to}
 use Rattle.flip_flops.specs.Edges.{shown_edge}
 use Rattle.circuit_meaning.specs.declared.Pin.{Pin}
 use Rattle.circuit_meaning.specs.Circuit.{Circuit, Driver, Input, Gate, Flop, driver, IsCircuit}
@@ -18,14 +17,14 @@ use Rattle.circuit_meaning.specs.Forward.{value, seen_value}
 use Rattle.circuit_meaning.specs.Cells.{span, span_from, looked_pins, pin_span, least_delay, cell_at, point_at}
 use Rattle.circuit_meaning.specs.Base.{base_answer}
 use Rattle.circuit_meaning.specs.Need.{HasChildren, IsEvaluable, children}
-use Rattle.circuit_meaning.specs.Looks.{kind_of, pin_point, flop_points, pin_points_at, somes, sees, looked_points}
+use Rattle.circuit_meaning.specs.Looks.{kind_of, pin_point, flop_points, pin_points_at, sees, looked_points}
 use Rattle.circuit_meaning.specs.Laws.{look, Pins, Edge}
 use Rattle.circuit_meaning.proofs.Equations.{span_is}
 use Rattle.circuit_meaning.proofs.Points.{children-earlier}
 use Rattle.circuit_meaning.proofs.Cover.{cell-covers}
-use Rattle.circuit_meaning.proofs.Steady.{cell-steady, gate_span-late, pin_span-early, pin_span-late}
+use Rattle.circuit_meaning.proofs.Steady.{in_all, all_map, cell-steady, gate_span-late, pin_span-early, pin_span-late}
 use Rattle.circuit_meaning.proofs.BaseCells.{base-answers}
-use Rattle.circuit_meaning.proofs.Looking.{children-somes}
+use Rattle.circuit_meaning.proofs.Looking.{sees-source, children-somes}
 use Rattle.std.specs.Prelude.{MatchOption}
 use Rattle.journal_meaning.proofs.Windows.{covered-cell}
 use Rattle.asked_cells.proofs.Pins.{somes-has}
@@ -47,19 +46,6 @@ pub source-earlier : (c : Circuit) → IsCircuit c → (s t n : ℕ) (x : Point)
 source-earlier c ok s t n x e = All-contains (λ (p : Point). p.time < t) (children c s t) x (children-earlier c ok s t) (source-child c s t n x e)
 
 -- ---- pin by pin
-
-in_all : (a : Span) (xs : List Span) (u : ℕ) → IsIn (fold meet a xs) u → IsIn a u × AllByRecursion (λ x. IsIn x u) xs
-in_all a [] u h = (h, tt)
-in_all a (x ∷ xs) u h =
-    let k = in_all (meet a x) xs u h in
-    (record { low = omega (arith, k.0); high = omega (arith, k.0) }, (record { low = omega (arith, k.0); high = omega (arith, k.0) }, k.1))
-
-all_map : {A B : Type 0} (P : B → Type 0) (f : A → B) (xs : List A) → AllByRecursion P (map f xs) → AllByRecursion (λ a. P (f a)) xs
-all_map P f [] h = tt
-all_map P f (x ∷ xs) h = (h.0, all_map P f xs h.1)
-
-sees-source : (c : Circuit) (t : ℕ) (p : Pin) → sees c (pin_point t p) ≡ seen_value (value c) t p
-sees-source c t p = elim (nat_lt t p.delay) as (λ b. sees c (cond b None (Some (record { signal = p.signal; time = t - p.delay }))) ≡ cond b X (value c p.signal (t - p.delay))) [ true ↦ refl | false ↦ refl ]
 
 -- what a driver looks at
 abbrev points : Circuit → ℕ → Driver → List (Option Point)

@@ -12,7 +12,7 @@ use Rattle.journal_meaning.specs.Table.{Needs, after}
 use Rattle.valid_intervals.specs.Cells.{same_point, covers, cell_for}
 use Rattle.valid_intervals.specs.declared.SignalCell.{SignalCell}
 use Rattle.circuit_meaning.specs.Cells.{cell_at}
-use Rattle.journal_meaning.proofs.Same.{same_point-true, same_point-itself}
+use Rattle.valid_intervals.proofs.Same.{same_point-true, same_point-itself}
 use Rattle.journal_meaning.proofs.Lists.{Each, Stands, stands-any, test-false}
 
 pub holder-filter : (test : Claim → Bool) (claims : List Claim) (p : Point) → holder claims p ≡ None → holder (filter test claims) p ≡ None

@@ -1,7 +1,6 @@
 -- What is found among the cells that entries say, by an index of their signals and first times.
-use Rattle.std.proofs.Common.{◌<◌, get_or, length, ◌⊎◌, ◌≡◌, ℕ, zero, suc, ◌≤◌, ◌&&◌, nat_le, nat_lt, leb-true, eq-eqb, le-leb, lt-ltb, true, false, cond, nat_eq, List, [], ◌∷◌, ◌++◌, Option, Some, None, IsSome, All, Contains, refl, sym, ap, ap₂, subst, ◌∙◌, eqb-true, arith, inl, inr}
+use Rattle.std.proofs.Common.{◌<◌, get_or, length, ◌⊎◌, ◌≡◌, ℕ, zero, suc, ◌≤◌, ◌&&◌, nat_le, nat_lt, leb-true, eq-eqb, le-leb, lt-ltb, true, false, cond, nat_eq, List, [], ◌∷◌, ◌++◌, Option, Some, None, IsSome, All, Contains, refl, sym, ap, subst, ◌∙◌, eqb-true, arith, inl, inr}
 use Rattle.std.proofs.lemmas.Bool.{and_parts, and_from, cases_Bool, ltb-true}
-use Rattle.std.proofs.lemmas.Bool.Decides.{nat_tests}
 use Rattle.std.proofs.lemmas.List.Elements.{All-contains, All-contains_itself, All-weaker, All-push, All-nil, All-from_recursion, Contains-append_left, Contains-append_right, Contains-append_cases, Contains-push, filter_map-append}
 use Rattle.std.specs.Ordering.{is_eq, is_gt, is_lt}
 use Rattle.valid_intervals.specs.declared.Cell.{Cell}
@@ -14,6 +13,7 @@ use Rattle.journal_meaning.proofs.More.{right-within}
 use Rattle.journal_meaning.specs.declared.Entry.{Entry}
 use Rattle.journal_meaning.specs.declared.Entry.TheVariants.{Told, Claimed, Filled, Evicted, Dropped, Spent}
 use Rattle.valid_intervals.specs.Cells.{covers, cell_for, point_cmp}
+use Rattle.valid_intervals.proofs.PointOrder.{same-place, itself, not-behind, signal-up, signal-down, time-up, time-down}
 use Rattle.journal_meaning.specs.Answers.{Says}
 use Rattle.journal_meaning.specs.Sections.{of_batch}
 use Rattle.journal_meaning.specs.Grown.{IsSaid}
@@ -22,39 +22,11 @@ use Rattle.journal_meaning.proofs.Lists.{Each, each-imply}
 use Rattle.journal_meaning.specs.Entries.{SaidCell, cell_said}
 use Rattle.journal_meaning.specs.inner.Index.{cells_said, Covers, IsFound, place_of, StandsAt, IsCellIndex}
 
-pub point-is : (a b : Point) → a.signal ≡ b.signal → a.time ≡ b.time → a ≡ b
-point-is a b e f = let at : ℕ → ℕ → Point = λ s t. record { signal = s; time = t } in ap₂ at e f
-
--- the order of points
-same-place : (a b : Point) → is_eq (point_cmp a b) ≡ true → a ≡ b
-same-place a b h =
-    let e : is_eq (point_cmp a b) ≡ (nat_eq a.signal b.signal && nat_eq a.time b.time) = grind (arith, nat_tests) in
-    let k = and_parts (nat_eq a.signal b.signal) (nat_eq a.time b.time) (sym e ∙ h) in
-    point-is a b (eqb-true a.signal b.signal k.0) (eqb-true a.time b.time k.1)
-
-itself : (a : Point) → is_eq (point_cmp a a) ≡ true
-itself a = grind (arith, nat_tests)
-
-not-behind : (a b : Point) → a.signal ≡ b.signal → a.time ≤ b.time → is_gt (point_cmp a b) ≡ false
-not-behind a b e l = grind (arith, nat_tests)
-
 -- a place between a first place of the signal and a point of the signal
 record IsBetween (low k high : Point) : Type 0 where
   signal : k.signal ≡ high.signal
   low_time : low.time ≤ k.time
   high_time : k.time ≤ high.time
-
-signal-up : (a b : Point) → is_gt (point_cmp a b) ≡ false → a.signal ≤ b.signal
-signal-up a b h = grind (arith, nat_tests)
-
-signal-down : (a b : Point) → is_lt (point_cmp a b) ≡ false → b.signal ≤ a.signal
-signal-down a b h = grind (arith, nat_tests)
-
-time-up : (a b : Point) → is_gt (point_cmp a b) ≡ false → a.signal ≡ b.signal → a.time ≤ b.time
-time-up a b h e = grind (arith, nat_tests)
-
-time-down : (a b : Point) → is_lt (point_cmp a b) ≡ false → a.signal ≡ b.signal → b.time ≤ a.time
-time-down a b h e = grind (arith, nat_tests)
 
 between : (low k high : Point) → is_gt (point_cmp k high) ≡ false → is_lt (point_cmp k low) ≡ false → low.signal ≡ high.signal → IsBetween low k high
 between low k high up down e =

@@ -19,7 +19,7 @@ use Rattle.batch_meaning.specs.Batches.{Batch}
 use Rattle.journal_meaning.specs.Allowed.{IsAllowed, IsRight}
 use Rattle.journal_meaning.specs.Counts.{booked_count, is_booked}
 use Rattle.journal_meaning.specs.Replay.{replay, IsLegal}
-use Rattle.journal_meaning.proofs.Same.{same_stored-true, same_stored-itself}
+use Rattle.valid_intervals.proofs.Same.{same_stored-true, same_stored-itself}
 use Rattle.journal_meaning.proofs.Lists.{Each, Differ, each-filter, differ-front, test-false}
 
 pub replay-more : (s : State) (es : List Entry) (e : Entry) → replay s (es ++ e ∷ []) ≡ after (replay s es) e

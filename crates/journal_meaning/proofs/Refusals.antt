@@ -12,6 +12,7 @@ use Rattle.journal_meaning.specs.declared.Entry.TheVariants.{Claimed, Filled, Ev
 use Rattle.batch_meaning.specs.declared.Query.{Query}
 use Rattle.batch_meaning.specs.Batches.{Batch, window_of}
 use Rattle.journal_meaning.specs.Replay.{IsLegalBatch}
+use Rattle.journal_meaning.proofs.Lists.{contains-one}
 use Rattle.journal_meaning.proofs.Examples.{at, cell, both, first_query, tight, both15, second_query, again, third_query, third}
 use Rattle.circuit_meaning.specs.Circuit.{driver, read_by}
 use Rattle.circuit_meaning.proofs.Points.{needed-in_cone}
@@ -34,23 +35,20 @@ left-claimed : IsLegalBatch third 0 [] (Claimed 3 (at 1 3) ∷ []) → ⊥
 left-claimed h = absurd (cc)
 
 -- a point that no query needs: of q, which p does not read
-only : {X : Type 0} (a x : X) → Contains (a ∷ []) x → x ≡ a
-only a x c = All-contains (λ y. y ≡ a) (a ∷ []) x (All-from_recursion (λ y. y ≡ a) (a ∷ []) (refl, tt)) c
-
 nothing : {X : Type 0} (x : X) → Contains [] x → ⊥
 nothing x c = All-contains (λ y. ⊥) [] x (All-from_recursion (λ y. ⊥) [] tt) c
 
 cone_of-p : (s : ℕ) → IsInCone both 2 s → (s ≡ 2) ⊎ (s ≡ 0)
 cone_of-p s Itself = inl refl
 cone_of-p s (Reads {s = x} h c) = elim (cone_of-p x h) [
-  | inl e ↦ inr (only 0 s (subst (λ y. Contains (read_by (driver both y)) s) e c))
+  | inl e ↦ inr (sym (contains-one 0 s (subst (λ y. Contains (read_by (driver both y)) s) e c)))
   | inr e ↦ absurd (nothing s (subst (λ y. Contains (read_by (driver both y)) s) e c))
 ]
 
 not-needed : IsLegalBatch again 0 [] (Claimed 3 (at 3 4) ∷ Dropped 3 (at 3 4) ∷ []) → ⊥
 not-needed h =
     let of = h.legal.1.1 in
-    let need : IsNeeded both (window_of second_query) 3 4 = subst (λ q. IsNeeded both (window_of q) 3 4) (only second_query of.0 of.1) of.3 in
+    let need : IsNeeded both (window_of second_query) 3 4 = subst (λ q. IsNeeded both (window_of q) 3 4) (sym (contains-one second_query of.0 of.1)) of.3 in
     elim (cone_of-p 3 (needed-in_cone both (window_of second_query) 3 4 need)) [
       | inl e ↦ omega (arith, e)
       | inr e ↦ omega (arith, e)
@@ -106,5 +104,5 @@ claimed-twice h = none-some 3 (sym h.legal.2.0.2)
 spent-beyond : IsLegalBatch third 0 [] (Spent 3 (at 1 3) 500001 ∷ []) → ⊥
 spent-beyond h =
     let of = h.legal.1.2 in
-    let k : 500001 ≤ 500000 = subst (λ (q : Query). 500001 ≤ q.budget) (only third_query of.0 of.1) of.3 in
+    let k : 500001 ≤ 500000 = subst (λ (q : Query). 500001 ≤ q.budget) (sym (contains-one third_query of.0 of.1)) of.3 in
     omega (arith, k)

@@ -16,7 +16,7 @@ use Rattle.batch_meaning.specs.Batches.{Batch, OfQuery}
 use Rattle.journal_meaning.specs.Allowed.{IsRight}
 use Rattle.circuit_meaning.specs.Cells.{cell_at}
 use Rattle.journal_meaning.proofs.Claims.{holder-ended}
-use Rattle.journal_meaning.proofs.Same.{same_stored-itself}
+use Rattle.valid_intervals.proofs.Same.{same_stored-itself}
 use Rattle.journal_meaning.proofs.More.{right-answers}
 use Rattle.circuit_meaning.specs.Circuit.{Circuit, IsCircuit}
 use Rattle.strand_meaning.specs.Strands.{next, next_in}

@@ -24,6 +24,7 @@ use Rattle.strand_meaning.specs.declared.Next.TheVariants.{Ask}
 use Rattle.plan_machine.specs.Shards.{Shard, IsShard, shard_with_entry}
 use Rattle.plan_machine.proofs.Shards.{found, told-keeps, claimed-shard}
 use Rattle.claim_waiters.specs.Claims.{WaitedClaim, Claims, IsInOrder, claim_at, holder_in, with_claim, with_waiter, waiters_at}
+use Rattle.valid_intervals.proofs.Same.{same_point-itself}
 use Rattle.claim_waiters.proofs.Tables as tables
 use Rattle.demand_points.specs.Demands as demands
 use Rattle.demand_points.specs.Demands.{Demand}
@@ -42,7 +43,7 @@ by_case (Err e) A B P a b f g = g b
 
 -- a new claim stands in the table
 pub stands-claimed : (claims : Claims Demand) (p : Point) (q : ℕ) → claim_at claims p ≡ None → IsSome (claim_at (with_claim claims q p) p)
-stands-claimed claims p q n = subst IsSome (sym (tables.at-inserted claims p (record { q = q; waiters = [] }) p n ∙ ap (λ t. cond t (Some (record { q = q; waiters = [] })) (claim_at claims p)) (tables.same-itself p))) refl
+stands-claimed claims p q n = subst IsSome (sym (tables.at-inserted claims p (record { q = q; waiters = [] }) p n ∙ ap (λ t. cond t (Some (record { q = q; waiters = [] })) (claim_at claims p)) (same_point-itself p))) refl
 
 pub query-none : (o : Option (WaitedClaim Demand)) → option_map (λ (c : WaitedClaim Demand). c.q) o ≡ None → o ≡ None
 query-none None h = refl

@@ -1,5 +1,5 @@
 -- Claims that are given up one after another.
-use Rattle.std.proofs.Common.{◌≡◌, ℕ, suc, ◌+◌, ◌*◌, ◌≤◌, true, false, cond, List, [], ◌∷◌, ◌++◌, length, map, refl, ap, ap₂, find, sym, ◌∙◌, subst, append_assoc, Some, option_map, arith}
+use Rattle.std.proofs.Common.{◌≡◌, ℕ, suc, ◌+◌, ◌*◌, ◌≤◌, true, false, cond, List, [], ◌∷◌, ◌++◌, length, map, refl, ap, ap₂, find, sym, ◌∙◌, subst, append_assoc, append-nil, Some, option_map, arith}
 use Rattle.std.specs.BTreeMap.{is_at}
 use Rattle.std.specs.List.Sorted.{IsStrictlySortedBy}
 use Rattle.std.specs.Map.{keys_of}
@@ -16,7 +16,8 @@ use Rattle.batch_meaning.specs.Batches.{Batch}
 use Rattle.journal_meaning.proofs.Claims.{no-claims}
 use Rattle.journal_meaning.proofs.More.{replay-more}
 use Rattle.claim_waiters.specs.Claims.{WaitedClaim, Claims, IsInOrder, claim_at, holder_in, first_of, without_claim}
-use Rattle.claim_waiters.proofs.Tables.{at-same, same-itself}
+use Rattle.valid_intervals.proofs.Same.{same_point-itself}
+use Rattle.claim_waiters.proofs.Tables.{at-same}
 use Rattle.demand_points.specs.Demands.{Demand}
 use Rattle.memo_shards.specs.KeptShards.{shard_at}
 use Rattle.memo_shards.specs.inner.KeptShards.{waits_in}
@@ -27,11 +28,7 @@ use Rattle.memo_shards.proofs.Entries.{shown, shown_with}
 use Rattle.memo_shards.proofs.Endings.{dropped-agrees}
 
 pub itself-at : (p : Point) → is_at (point_cmp p) p ≡ true
-itself-at p = at-same p p ∙ same-itself p
-
-append-none : {X : Type 0} (l : List X) → l ++ [] ≡ l
-append-none [] = refl
-append-none (x ∷ l) = ap (λ r. x ∷ r) (append-none l)
+itself-at p = at-same p p ∙ same_point-itself p
 
 -- so many are gone, each with its entry
 pub record IsFreed (all now : Claims Demand) (before after : List Entry) (len capacity : ℕ) : Type 0 where
@@ -41,7 +38,7 @@ pub record IsFreed (all now : Claims Demand) (before after : List Entry) (len ca
   pub room : len + 2 * length now ≤ capacity
 
 pub freed-none : (all : Claims Demand) (es : List Entry) (len capacity : ℕ) → len + 2 * length all ≤ capacity → IsFreed all all es es len capacity
-freed-none all es len capacity h = record { gone = []; split = refl; items = sym (append-none es); room = h }
+freed-none all es len capacity h = record { gone = []; split = refl; items = sym (append-nil es); room = h }
 
 map-snoc : (gone : Claims Demand) (e : Point × WaitedClaim Demand) → map drop_of (gone ++ e ∷ []) ≡ map drop_of gone ++ drop_of e ∷ []
 map-snoc [] e = refl
@@ -68,7 +65,7 @@ freed-more all (x ∷ now) before after len capacity is q p f left l then e long
     }
 
 pub freed-all : (all : Claims Demand) (before after : List Entry) (len capacity : ℕ) → IsFreed all [] before after len capacity → after ≡ before ++ map drop_of all
-freed-all all before after len capacity is = is.items ∙ ap (λ (l : Claims Demand). before ++ map drop_of l) (sym (is.split ∙ append-none is.gone))
+freed-all all before after len capacity is = is.items ∙ ap (λ (l : Claims Demand). before ++ map drop_of l) (sym (is.split ∙ append-nil is.gone))
 
 -- the claims of a table, as a state has them
 abbrev listed : Claims Demand → List states.Claim
@@ -92,7 +89,7 @@ listed-holder (e ∷ claims) p = rw (at-same p e.0)
 
 module _ (b : Batch) (opening : List SignalCell) (n : ℕ) (store : Contents) where
   pub freed-agrees : (claims : Claims Demand) → IsInOrder claims → (es : List Entry) → Agrees b opening n store claims es → Agrees b opening n store [] (es ++ map drop_of claims)
-  freed-agrees [] o es is = subst (Agrees b opening n store []) (sym (append-none es)) is
+  freed-agrees [] o es is = subst (Agrees b opening n store []) (sym (append-nil es)) is
   freed-agrees (e ∷ cs) o es is =
       let at : holder_in (e ∷ cs) e.0 ≡ Some e.1.q = rw (itself-at e.0) refl in
       let held : holder (shard_at opening es).state.claims e.0 ≡ Some e.1.q = sym (is.holders e.0) ∙ at in
@@ -102,7 +99,7 @@ module _ (b : Batch) (opening : List SignalCell) (n : ℕ) (store : Contents) wh
       (freed-agrees cs (sorted_tail point_cmp e.0 (keys_of cs) o) (es ++ drop_of e ∷ []) (subst (λ l. Agrees b opening n store l (es ++ drop_of e ∷ [])) rest step))
 
   recorded-all : (fs es : List Entry) → shard_at opening (es ++ fs) ≡ recorded_all fs (shard_at opening es)
-  recorded-all [] es = ap (shard_at opening) (append-none es)
+  recorded-all [] es = ap (shard_at opening) (append-nil es)
   recorded-all (f ∷ fs) es =
       ap (shard_at opening) (sym (append_assoc es (f ∷ []) fs)) ∙ recorded-all fs (es ++ f ∷ [])
       ∙ ap (λ s. recorded_all fs (record { state = s; journal = es ++ f ∷ [] })) (replay-more (fresh opening) es f)

@@ -3,7 +3,7 @@ use Rattle.std.proofs.Common.{◌≡◌, ℕ, zero, suc, ◌+◌, ◌<◌, ◌�
 use Rattle.std.proofs.Math.ListN.{set}
 use Rattle.std.specs.List.{AllByRecursion, AllZip, refill}
 use Rattle.std.proofs.lemmas.Bool.{cases_eq}
-use Rattle.std.proofs.lemmas.List.{get_or-set_same, get_or-set_other}
+use Rattle.std.proofs.lemmas.List.{get_or_default, get_or-set_same, get_or-set_other}
 
 module _ {X : Type 0} (R : X → X → Type 0) where
   -- those before i have, and the others have not
@@ -13,11 +13,6 @@ module _ {X : Type 0} (R : X → X → Type 0) where
 
   pub none-yet : (xs : List X) → IsUpTo xs xs 0
   none-yet xs = record { before = λ k d h. absurd (omega (arith, h)); behind = λ k d h. refl }
-
-  get_or-alike : (xs : List X) (i : ℕ) (d e : X) → i < length xs → get_or xs i d ≡ get_or xs i e
-  get_or-alike [] i d e h = absurd (omega arith)
-  get_or-alike (x ∷ xs) zero d e h = refl
-  get_or-alike (x ∷ xs) (suc i) d e h = get_or-alike xs i d e (omega arith)
 
   pub one-more : (xs ys : List X) (i : ℕ) (x v : X) → i < length xs → length ys ≡ length xs → IsUpTo xs ys i → x ≡ get_or ys i x → R x v → IsUpTo xs (set ys i v) (i + 1)
   one-more xs ys i x v lt same h at r = record {
@@ -29,7 +24,7 @@ module _ {X : Type 0} (R : X → X → Type 0) where
   }
     where
       here : (d : X) → x ≡ get_or xs i d
-      here d = at ∙ get_or-alike ys i x d (omega (arith, lt, same)) ∙ h.behind i d (omega arith)
+      here d = at ∙ get_or_default ys i x d (omega (arith, lt, same)) ∙ h.behind i d (omega arith)
 
   zip-from : (xs ys : List X) → length ys ≡ length xs → ((k : ℕ) (d : X) → k < length xs → R (get_or xs k d) (get_or ys k d)) → AllZip R xs ys
   zip-from [] [] e f = tt

@@ -1,5 +1,5 @@
 -- The waiters of a table, as one list.
-use Rattle.std.proofs.Common.{◌≡◌, Bool, true, false, cond, List, [], ◌∷◌, ◌++◌, map, refl, sym, ap, ◌∙◌, subst, Some, None, IsSome, arith, inl, inr}
+use Rattle.std.proofs.Common.{◌≡◌, Bool, true, false, cond, List, [], ◌∷◌, ◌++◌, map, refl, sym, ap, ◌∙◌, subst, append-nil, Some, None, IsSome, arith, inl, inr}
 use Rattle.std.specs.declared.cmp.Ordering.TheVariants.{Less, Equal, Greater}
 use Rattle.std.specs.Ordering.{is_eq, match_ordering}
 use Rattle.std.specs.List.{AllByRecursion}
@@ -12,7 +12,8 @@ use Rattle.std.proofs.lemmas.Map.Keys.{sorted_head, sorted_tail}
 use Rattle.valid_intervals.specs.declared.Point.{Point}
 use Rattle.valid_intervals.specs.Cells.{same_point, point_cmp}
 use Rattle.claim_waiters.specs.Claims.{Claims, IsInOrder, claim_at, waiters_at, with_claim, add_waiter}
-use Rattle.claim_waiters.proofs.Tables.{at-same, at-back, same-is, same-itself}
+use Rattle.valid_intervals.proofs.Same.{same_point-true, same_point-itself}
+use Rattle.claim_waiters.proofs.Tables.{at-same, at-back}
 use Rattle.demand_points.specs.Demands.{Demand}
 use Rattle.memo_shards.specs.KeptShards.{Waiting, waiting_at}
 use Rattle.memo_shards.specs.inner.KeptShards.{waits_for, waits_in}
@@ -76,14 +77,10 @@ waits-at (e ∷ es) o x =
     ∙ ap (λ l. l ++ waiting_at (waits_in es) x) (waiting-map e.0 x e.1.waiters)
     ∙ (elim (cases_Bool (same_point e.0 x)) [
       | inl h ↦
-          let none : waiting_at (waits_in es) x ≡ [] = subst (λ z. waiting_at (waits_in es) z ≡ []) (same-is e.0 x h) (none-later e.0 es (sorted_head point_cmp e.0 (keys_of es) o)) in
-          rw (at-back e.0 x, h, none) (append-none e.1.waiters)
+          let none : waiting_at (waits_in es) x ≡ [] = subst (λ z. waiting_at (waits_in es) z ≡ []) (same_point-true e.0 x h) (none-later e.0 es (sorted_head point_cmp e.0 (keys_of es) o)) in
+          rw (at-back e.0 x, h, none) (append-nil e.1.waiters)
       | inr h ↦ rw (at-back e.0 x, h) (waits-at es (sorted_tail point_cmp e.0 (keys_of es) o) x)
     ])
-  where
-    append-none : (ws : List Demand) → ws ++ [] ≡ ws
-    append-none [] = refl
-    append-none (w ∷ ws) = ap (λ l. w ∷ l) (append-none ws)
 
 -- nobody waits at a new claim
 pub waits-claimed : (claims : Claims Demand) (p : Point) (q : _) → claim_at claims p ≡ None → waits_in (with_claim claims q p) ≡ waits_in claims
@@ -99,7 +96,7 @@ waits-claimed (e ∷ es) p q n =
 -- what holds of each claimed point, and of all that wait there
 pub each-claimed : (Q : Point → Type 0) (es : Claims Demand) → ((x : Point) → IsSome (claim_at es x) → Q x) → AllByRecursion (λ e. Q e.0) es
 each-claimed Q [] f = tt
-each-claimed Q (e ∷ es) f = (f e.0 (rw (at-same e.0 e.0 ∙ same-itself e.0) refl), each-claimed Q es (λ x s. f x (more x s)))
+each-claimed Q (e ∷ es) f = (f e.0 (rw (at-same e.0 e.0 ∙ same_point-itself e.0) refl), each-claimed Q es (λ x s. f x (more x s)))
   where
     more : (x : Point) → IsSome (claim_at es x) → IsSome (claim_at (e ∷ es) x)
     more x s = elim (is_at (point_cmp x) e.0) as (λ t. IsSome (cond t (Some e.1) (claim_at es x))) [ true ↦ refl | false ↦ s ]

@@ -1,12 +1,14 @@
 -- A walk that looks at its pins one after another comes to the cell of its point.
 use Rattle.std.proofs.Common.{◌≡◌, ℕ, zero, suc, ◌+◌, ◌-◌, ◌<◌, ◌≤◌, ◌||◌, Bool, true, false, IsTrue, List, [], ◌∷◌, ◌++◌, length, map, take, get_or, fold, refl, ap, sym, ◌∙◌, subst, arith, inl, inr, Option, Some, None, IsSome, nat_eq, slice_get, option_map, IfSome}
 use Rattle.std.specs.List.{AllByRecursion, list_any, range_with_len}
-use Rattle.std.proofs.lemmas.Bool.{cases_Bool, cases_lt}
+use Rattle.std.proofs.lemmas.Bool.{cases_Bool, cases_lt, eq-eqb, ne_eqb}
 use Rattle.std.proofs.lemmas.Bool.Decides.{eqb_tells}
+use Rattle.std.proofs.lemmas.Option.{get_or_from_slice_get}
 use Rattle.std.proofs.lemmas.List.{map-append, take_more, take_all, get_or-take, get_or_past}
 use Rattle.std.proofs.lemmas.List.Folds.{list_any-append}
 use Rattle.std.proofs.lemmas.List.Sums.{fold-append}
 use Rattle.std.proofs.lemmas.List.FromFn.{length-map-range_with_len, take-map-range_with_len, get_or-map-range_with_len}
+use Rattle.std.proofs.Math.Nat.{ne_of_lt}
 use Rattle.std.proofs.Math.ListN.{get_or-map, length-map}
 use Rattle.gate_values.specs.declared.Value.{Value}
 use Rattle.gate_values.specs.declared.Evaluation.{Evaluation}
@@ -78,20 +80,6 @@ reads-within n h (Flop f) (suc k) ok below = absurd (omega arith)
 apart-below : (a b n : ℕ) → a ≤ b → b ≡ n → (a ≡ n → ⊥) → a < b
 apart-below a b n le e ne = elim (cases_lt a b) [ inl l ↦ l | inr l ↦ absurd (ne (omega arith)) ]
 
-below-not : (a b : ℕ) → a < b → a ≡ b → ⊥
-below-not a b l e = omega arith
-
-eqb_is : (a b : ℕ) → a ≡ b → nat_eq a b ≡ true
-eqb_is a b e = elim (eqb_tells a b) [ inl t ↦ t.0 | inr t ↦ absurd (t.1 e) ]
-
-eqb_not : (a b : ℕ) → (a ≡ b → ⊥) → nat_eq a b ≡ false
-eqb_not a b ne = elim (eqb_tells a b) [ inl t ↦ absurd (ne t.1) | inr t ↦ t.0 ]
-
-get-is : {A : Type 0} (xs : List A) (n : ℕ) (d y : A) → slice_get xs n ≡ Some y → get_or xs n d ≡ y
-get-is [] n d y e = absurd (cc e)
-get-is (x ∷ xs) zero d y e = cc
-get-is (x ∷ xs) (suc n) d y e = get-is xs n d y e
-
 -- what is heard of a source is what is seen there
 pub heard-value : (c : Circuit) (o : Option Point) (h : Option Cell) → h ≡ cell_there c o → value_there h ≡ sees c o
 heard-value c None h e = rw e refl
@@ -101,7 +89,7 @@ pub heard-span : (c : Circuit) (o : Option Point) (h : Option Cell) → h ≡ ce
 heard-span c None h e = rw e refl
 heard-span c (Some p) h e = rw e refl
 
-take-none : {A : Type 0} (xs : List A) → take 0 xs ≡ []
+pub take-none : {A : Type 0} (xs : List A) → take 0 xs ≡ []
 take-none [] = refl
 take-none (x ∷ xs) = refl
 
@@ -197,17 +185,17 @@ module _ (c : Circuit) (ok : IsCircuit c) (f : PinWalk) (is : IsPinWalk c f) whe
   goes-on looking v seen h below = cut-more (λ o. decides (kind_at c f.point) (sees c o)) (all_points c f.point) (f.looked + 1) below (any-decides looking v seen ∙ h)
 
   pub done-first : IsLooking c f → (v : Value) → v ≡ sees c (next_point c f) → decides f.evaluation.kind v ≡ true → true ≡ nat_eq (f.looked + 1) (length (looked_at c f.point))
-  done-first looking v seen h = sym (eqb_is (f.looked + 1) (length (looked_at c f.point)) (ends-here looking v seen h))
+  done-first looking v seen h = sym (eq-eqb (f.looked + 1) (length (looked_at c f.point)) (ends-here looking v seen h))
 
   pub done-last : IsLooking c f → (v : Value) → v ≡ sees c (next_point c f) → decides f.evaluation.kind v ≡ false → (n : ℕ) → n ≡ length (read_by (driver c f.point.signal)) → nat_eq (f.looked + 1) n ≡ nat_eq (f.looked + 1) (length (looked_at c f.point))
   done-last looking v seen h n e =
       let count : n ≡ length (all_points c f.point) = e ∙ sym (sources-count f.point.time (driver c f.point.signal) is.evaluable) in
       elim (eqb_tells (f.looked + 1) n) [
-        | inl t ↦ t.0 ∙ sym (eqb_is (f.looked + 1) (length (looked_at c f.point)) (ends-last looking (t.1 ∙ count)))
+        | inl t ↦ t.0 ∙ sym (eq-eqb (f.looked + 1) (length (looked_at c f.point)) (ends-last looking (t.1 ∙ count)))
         | inr t ↦
             let k = looking-below looking in
             let below : f.looked + 1 < length (all_points c f.point) = apart-below (f.looked + 1) (length (all_points c f.point)) n (omega arith) (sym count) t.1 in
-            t.0 ∙ sym (eqb_not (f.looked + 1) (length (looked_at c f.point)) (below-not (f.looked + 1) (length (looked_at c f.point)) (goes-on looking v seen h below)))
+            t.0 ∙ sym (ne_eqb (f.looked + 1) (length (looked_at c f.point)) (ne_of_lt (goes-on looking v seen h below)))
       ]
 
   -- whether it is over, and the source after the next one
@@ -305,7 +293,7 @@ module _ (c : Circuit) (ok : IsCircuit c) (f : PinWalk) (is : IsPinWalk c f) whe
 -- what a point reads by a pin
 module _ (c : Circuit) (ok : IsCircuit c) (p : Point) (here : IsPoint c p) (pin : ℕ) where
   pub read-is : (o : Option ℕ) → slice_get (all_points c p) pin ≡ Some (option_map (pin_at c p.signal pin) o) → option_map (pin_at c p.signal pin) o ≡ get_or (all_points c p) pin None
-  read-is o e = sym (get-is (all_points c p) pin None (option_map (pin_at c p.signal pin) o) e)
+  read-is o e = sym (get_or_from_slice_get (all_points c p) pin (option_map (pin_at c p.signal pin) o) None e)
 
   pub read-among : (xs : List ℕ) (t : ℕ) → xs ≡ read_by (driver c p.signal) → slice_get (all_points c p) pin ≡ Some (option_map (pin_at c p.signal pin) (Some t))
       → Some (record { signal = get_or xs pin 0; time = t }) ≡ get_or (all_points c p) pin None
@@ -339,7 +327,7 @@ new-walk c ok p e o here evaluable kind value source reads =
       kind = kind;
       value = value ∙ ap (λ k. gate_value k []) kind ∙ ap (λ xs. gate_value (kind_at c p) (map (sees c) xs)) (sym none);
       interval = refl;
-      done = sym (eqb_not 0 (length (looked_at c p)) (below-not 0 (length (looked_at c p)) some));
+      done = sym (ne_eqb 0 (length (looked_at c p)) (ne_of_lt some));
       source = source ∙ sym (cut-get test (all_points c p) 0 None some);
       reads = reads;
     }

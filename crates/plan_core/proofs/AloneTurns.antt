@@ -4,7 +4,7 @@ use Rattle.std.proofs.Math.ListN.{length-map, length-set}
 use Rattle.std.proofs.lemmas.Bool.{cases_eq}
 use Rattle.std.proofs.lemmas.List.{map-set}
 use Rattle.std.proofs.lemmas.List.Sums.{sum_by-set}
-use Rattle.std.proofs.lemmas.Option.{slice_get-get_or, get_or_from_slice_get}
+use Rattle.std.proofs.lemmas.Option.{get_or_from_slice_get, slice_get-get_or, get_or_from_slice_get}
 use Rattle.valid_intervals.specs.declared.Point.{Point}
 use Rattle.valid_intervals.specs.declared.SignalCell.{SignalCell}
 use Rattle.valid_intervals.specs.Cells.{stored_at}
@@ -43,7 +43,7 @@ use Rattle.memo_shards.specs.Steps.{MayStep, step_point}
 use Rattle.plan_core.specs.Parts.{AreInOrder, plan_of_new, shards_in}
 use Rattle.plan_core.specs.InTurn.{booked_by, booked_in, made_by}
 use Rattle.plan_core.specs.inner.InTurn.{IsAlone, KeepsTask, MakesTurn, MakesNone}
-use Rattle.plan_core.proofs.Lists.{set-same, get-or-at}
+use Rattle.plan_core.proofs.Lists.{set-same}
 
 -- a strand whose window ends at 0 has no root
 roots-none : (c : Circuit) (w : Window) (root : ℕ) → w.stop ≡ 0 → roots_left c w root ≡ []
@@ -172,7 +172,7 @@ module _ (b : Batch) (opening : ℕ → List SignalCell) (w : Demand) (shards : 
   home-is = ap (λ n. p.signal % n) (length-map shards (λ (m : KeptShard). m.shard)) ∙ sym slot-is
 
   there : shard_of old p ≡ h0.shard
-  there = ap (λ n. get_or (shards_in shards) n no_shard) home-is ∙ get-or-at (shards_in shards) slot h0.shard no_shard (map-get (λ (m : KeptShard). m.shard) shards slot h0 at-slot)
+  there = ap (λ n. get_or (shards_in shards) n no_shard) home-is ∙ get_or_from_slice_get (shards_in shards) slot h0.shard no_shard (map-get (λ (m : KeptShard). m.shard) shards slot h0 at-slot)
 
   none : stored_at h0.shard.state.cells p ≡ None → stored_at (shard_of old p).state.cells p ≡ None
   none h = ap (λ (z : Shard). stored_at z.state.cells p) there ∙ h

@@ -1,5 +1,5 @@
 -- A plan as it begins.
-use Rattle.std.proofs.Common.{◌≡◌, All, ℕ, zero, suc, ◌<◌, ◌%◌, ◌+◌, false, List, [], ◌∷◌, ◌++◌, length, map, get_or, slice_get, refl, ap, sym, ◌∙◌, subst, arith, Option, Some, None, IsSome}
+use Rattle.std.proofs.Common.{◌≡◌, All, ℕ, zero, suc, ◌<◌, ◌%◌, ◌+◌, false, List, [], ◌∷◌, ◌++◌, length, map, get_or, slice_get, refl, ap, sym, ◌∙◌, subst, arith, append_assoc, append-nil, Option, Some, None, IsSome}
 use Rattle.std.specs.List.{AllByRecursion}
 use Rattle.std.proofs.Math.ListN.{length-map}
 use Rattle.std.proofs.lemmas.Option.{get_or_from_slice_get, slice_get_within}
@@ -24,7 +24,7 @@ use Rattle.memo_shards.specs.inner.Seen.{numbered_strand, waited_shard, parked_o
 use Rattle.plan_core.specs.inner.Places.{seats, tag, tags, tag_of}
 use Rattle.plan_core.specs.inner.Parts.{blank, waited_shards, plan_at, IsPlan}
 use Rattle.plan_core.specs.Parts.{AreFreshStrands, AreFree, shards_in, strands_in, plan_of_new}
-use Rattle.plan_core.proofs.Lists.{get-or-at, none-left}
+use Rattle.plan_core.proofs.Lists.{some-at, none-left}
 
 pub shards-same : (shards : List KeptShard) → shards_of (waited_shards shards) ≡ shards_in shards
 shards-same [] = refl
@@ -34,14 +34,6 @@ shards-same (m ∷ ms) = ap (λ l. m.shard ∷ l) (shards-same ms)
 pub record IsPausing (strands : List Demand) (now : List (Option Demand)) (left : List Demand) (many : ℕ) : Type 0 where
   pub same : tags now ++ map tag_of left ≡ map tag_of strands
   pub count : many ≡ length left
-
-append-append : {A : Type 0} (xs ys zs : List A) → (xs ++ ys) ++ zs ≡ xs ++ (ys ++ zs)
-append-append [] ys zs = refl
-append-append (x ∷ xs) ys zs = ap (λ l. x ∷ l) (append-append xs ys zs)
-
-append-nil : {A : Type 0} (xs : List A) → xs ++ [] ≡ xs
-append-nil [] = refl
-append-nil (x ∷ xs) = ap (λ l. x ∷ l) (append-nil xs)
 
 tags-push : (now : List (Option Demand)) (o : Option Demand) → tags (now ++ o ∷ []) ≡ tags now ++ tag o ∷ []
 tags-push [] o = refl
@@ -56,7 +48,7 @@ pause-one strands now after old new many fewer s r pausing e less step push =
     let made : ℕ → Strand → NumberedStrand = λ n t. record { number = n; strand = t } in
     let same : numbered_strand r ≡ numbered_strand s = ap (λ n. made n r.strand) step.number ∙ ap (made s.number) step.strand in
     record {
-      same = ap (λ l. tags l ++ map tag_of new) push ∙ ap (λ l. l ++ map tag_of new) (tags-push now (Some r)) ∙ append-append (tags now) (tag (Some r) ∷ []) (map tag_of new)
+      same = ap (λ l. tags l ++ map tag_of new) push ∙ ap (λ l. l ++ map tag_of new) (tags-push now (Some r)) ∙ append_assoc (tags now) (tag (Some r) ∷ []) (map tag_of new)
           ∙ ap (λ w. tags now ++ Some w ∷ map tag_of new) same ∙ ap (λ l. tags now ++ map tag_of l) (sym e) ∙ pausing.same;
       count = let k : many ≡ length (s ∷ new) = pausing.count ∙ ap (λ (l : List Demand). length l) e in omega arith;
     }
@@ -108,11 +100,6 @@ all-at P [] i x all h = absurd (cc h)
 all-at P (y ∷ ys) zero x all h = let e : y ≡ x = cc h in subst P e all.0
 all-at P (y ∷ ys) (suc i) x all h = all-at P ys i x all.1 h
 
-pub some-at : {A : Type 0} (xs : List A) (i : ℕ) → i < length xs → (x : A) × (slice_get xs i ≡ Some x)
-some-at [] i h = absurd (omega arith)
-some-at (x ∷ xs) zero h = (x, refl)
-some-at (x ∷ xs) (suc i) h = some-at xs i (omega arith)
-
 no-held : (q : Option ℕ) → q ≡ None → IsSome q → ⊥
 no-held None e h = cc h
 no-held (Some q) e h = cc e
@@ -138,7 +125,7 @@ module _ (b : Batch) (lawful : IsLawful b) (opening : ℕ → List SignalCell) (
   at-number n low = some-at shards n (let k = free.count in omega arith)
 
   memo-is : (n : ℕ) (low : n < b.shards) → get_or (waited_shards shards) n no_waited_shard ≡ waited_shard (at-number n low).0
-  memo-is n low = get-or-at (waited_shards shards) n (waited_shard (at-number n low).0) no_waited_shard (map-get waited_shard shards n (at-number n low).0 (at-number n low).1)
+  memo-is n low = get_or_from_slice_get (waited_shards shards) n (waited_shard (at-number n low).0) no_waited_shard (map-get waited_shard shards n (at-number n low).0 (at-number n low).1)
 
   parked-none : (n : ℕ) → n < b.shards → (get_or (waited_shards shards) n no_waited_shard).parked ≡ []
   parked-none n low = ap (λ (z : WaitedShard). z.parked) (memo-is n low) ∙ ap (map parked_of) (idle n (at-number n low).0 (at-number n low).1)
@@ -146,7 +133,7 @@ module _ (b : Batch) (lawful : IsLawful b) (opening : ℕ → List SignalCell) (
   shard-is : (n : ℕ) (low : n < b.shards) → get_or (shards_of (waited_shards shards)) n no_shard ≡ (at-number n low).0.shard
   shard-is n low =
       let m = at-number n low in
-      get-or-at (shards_of (waited_shards shards)) n m.0.shard no_shard (map-get (λ (z : WaitedShard). z.shard) (waited_shards shards) n (waited_shard m.0) (map-get waited_shard shards n m.0 m.1))
+      get_or_from_slice_get (shards_of (waited_shards shards)) n m.0.shard no_shard (map-get (λ (z : WaitedShard). z.shard) (waited_shards shards) n (waited_shard m.0) (map-get waited_shard shards n m.0 m.1))
 
   waiters-none : (p : Point) → kept.waiters (waited_shards shards) p ≡ []
   waiters-none p =

@@ -40,8 +40,8 @@ use Rattle.plan_core.specs.inner.InTurn.{IsAlone, KeepsTask, MakesTurn, TakesOne
 use Rattle.plan_core.proofs.AloneTurns.{keeps-more}
 use Rattle.plan_core.proofs.Rounds.{moved}
 use Rattle.plan_machine.proofs.Links.{map-get, set-here, set-other}
-use Rattle.plan_core.proofs.Lists.{get-or-at}
-use Rattle.plan_core.proofs.Beginning.{all-at, some-at, each-known}
+use Rattle.plan_core.proofs.Lists.{some-at}
+use Rattle.plan_core.proofs.Beginning.{all-at, each-known}
 use Rattle.journal_meaning.specs.declared.Entry.{Entry}
 use Rattle.journal_meaning.specs.declared.Entry.TheVariants.{Filled}
 
@@ -351,7 +351,7 @@ shards-fresh b opening shards free known = record {
     at-number n low = some-at shards n (let k = free.count in omega arith)
 
     shard-is : (n : ℕ) (m : KeptShard) → slice_get shards n ≡ Some m → get_or (shards_in shards) n no_shard ≡ m.shard
-    shard-is n m at = get-or-at (shards_in shards) n m.shard no_shard (map-get (λ (z : KeptShard). z.shard) shards n m at)
+    shard-is n m at = get_or_from_slice_get (shards_in shards) n m.shard no_shard (map-get (λ (z : KeptShard). z.shard) shards n m at)
 
 pub lawful-known : (b : Batch) (opening : ℕ → List SignalCell) (shards : List KeptShard) → All (IsKnownShard b opening) shards → 0 < length shards → IsLawful b
 lawful-known b opening [] known some = absurd (omega arith)

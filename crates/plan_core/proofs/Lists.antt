@@ -7,6 +7,7 @@ use Rattle.strand_meaning.specs.Strands.{Strand}
 use Rattle.plan_machine.specs.Plans.{itself}
 use Rattle.plan_machine.specs.inner.Parts.{NumberedStrand, IsAmong, put_back}
 use Rattle.plan_machine.proofs.Links.{set-here, set-other}
+use Rattle.plan_machine.proofs.Parts.{set-low}
 use Rattle.demand_points.specs.Demands.{Demand, TakesStep}
 use Rattle.memo_shards.specs.inner.Seen.{numbered_strand}
 use Rattle.memo_shards.proofs.Seen.{changed}
@@ -17,15 +18,10 @@ set-same [] n a e = refl
 set-same (x ∷ xs) zero a e = let k : x ≡ a = cc e in ap (λ y. y ∷ xs) (sym k)
 set-same (x ∷ xs) (suc n) a e = ap (λ ys. x ∷ ys) (set-same xs n a e)
 
-pub read-at : {A : Type 0} (xs : List A) (n : ℕ) (x : A) → n < length xs → x ≡ get_or xs n x → slice_get xs n ≡ Some x
-read-at [] n x low e = absurd (omega arith)
-read-at (y ∷ xs) zero x low e = ap Some (sym e)
-read-at (y ∷ xs) (suc n) x low e = read-at xs n x (omega arith) e
-
-pub get-or-at : {A : Type 0} (xs : List A) (n : ℕ) (x d : A) → slice_get xs n ≡ Some x → get_or xs n d ≡ x
-get-or-at [] n x d e = absurd (cc e)
-get-or-at (y ∷ xs) zero x d e = cc e
-get-or-at (y ∷ xs) (suc n) x d e = get-or-at xs n x d e
+pub some-at : {A : Type 0} (xs : List A) (i : ℕ) → i < length xs → (x : A) × (slice_get xs i ≡ Some x)
+some-at [] i h = absurd (omega arith)
+some-at (x ∷ xs) zero h = (x, refl)
+some-at (x ∷ xs) (suc i) h = some-at xs i (omega arith)
 
 set-over : {A : Type 0} (xs : List A) (m n : ℕ) (a b : A) → (m ≡ n → ⊥) → slice_set (slice_set xs m a) n b ≡ slice_set (slice_set xs n b) m a
 set-over [] m n a b ne = refl
@@ -76,11 +72,6 @@ numbers-none places numbers n o at i r h = elim (cases_eq i n) [
       absurd (cc (now, h))
   | inr k ↦ numbers i r (sym (set-other places n i None k) ∙ h)
 ]
-
-pub set-low : {A : Type 0} (xs : List A) (i : ℕ) (a : A) → i < length xs → slice_get (slice_set xs i a) i ≡ Some a
-set-low [] i a low = absurd (omega arith)
-set-low (x ∷ xs) zero a low = refl
-set-low (x ∷ xs) (suc i) a low = set-low xs i a (omega arith)
 
 pub set-numbers : (places : List (Option Demand)) → AreNumbered places → (n : ℕ) (s : Demand) → s.number ≡ n → n < length places → AreNumbered (slice_set places n (Some s))
 set-numbers places numbers n s e low i r h = elim (cases_eq i n) [

@@ -1,5 +1,5 @@
 -- The turn of a strand that waits or has ended.
-use Rattle.std.proofs.Common.{◌≡◌, ℕ, zero, suc, ◌<◌, true, false, arith, List, [], ◌∷◌, length, ◌∙◌, slice_get, refl, ap, sym, subst, Option, Some, None, Ok}
+use Rattle.std.proofs.Common.{◌≡◌, ℕ, ◌<◌, true, false, arith, List, length, ◌∙◌, slice_get, refl, ap, sym, subst, Option, Some, None, Ok}
 use Rattle.valid_intervals.specs.declared.SignalCell.{SignalCell}
 use Rattle.batch_meaning.specs.Batches.{Batch}
 use Rattle.strand_meaning.specs.declared.Next.TheVariants.{Done}
@@ -16,6 +16,7 @@ use Rattle.memo_shards.specs.KeptShards.{KeptShard}
 use Rattle.plan_core.specs.inner.Places.{seat, IsNextAt}
 use Rattle.plan_core.specs.inner.Parts.{plan_at, IsPlan}
 use Rattle.plan_core.specs.inner.Turns.{OfTurn, IsSeen}
+use Rattle.plan_core.proofs.Lists.{some-at}
 use Rattle.plan_core.proofs.Seen.{in-plan, awake}
 
 module _ (b : Batch) (opening : ℕ → List SignalCell) (places : List (Option Demand)) (shards : List KeptShard) (parts : IsPlan b opening places shards) (n : ℕ) where
@@ -44,13 +45,8 @@ module _ (b : Batch) (opening : ℕ → List SignalCell) (places : List (Option 
       let many = length-map places seat in
       let inside = slice_get_within old.strands n s there in
       let low : n < length places = omega arith in
-      by (place-at places n low) there
+      by (some-at places n low) there
     where
-      place-at : {A : Type 0} (xs : List A) (i : ℕ) → i < length xs → (x : A) × (slice_get xs i ≡ Some x)
-      place-at [] i h = absurd (omega arith)
-      place-at (x ∷ xs) zero h = (x, refl)
-      place-at (x ∷ xs) (suc i) h = place-at xs i (omega arith)
-
       by : (o : Option Demand) × (slice_get places n ≡ Some o) → slice_get (plan_at places shards).strands n ≡ Some s → s.waits ≡ true
       by (Some r, h) there = absurd (none r h)
       by (None, h) there =
@@ -69,13 +65,8 @@ module _ (b : Batch) (opening : ℕ → List SignalCell) (places : List (Option 
       let many = length-map places seat in
       let inside = slice_get_within old.strands n x there in
       let low : n < length places = omega arith in
-      by (place-at places n low) there
+      by (some-at places n low) there
     where
-      place-at : {A : Type 0} (xs : List A) (i : ℕ) → i < length xs → (x : A) × (slice_get xs i ≡ Some x)
-      place-at [] i h = absurd (omega arith)
-      place-at (x ∷ xs) zero h = (x, refl)
-      place-at (x ∷ xs) (suc i) h = place-at xs i (omega arith)
-
       by : (o : Option Demand) × (slice_get places n ≡ Some o) → slice_get (plan_at places shards).strands n ≡ Some x → (s : Demand) × ((slice_get places n ≡ Some (Some s)) × (s.strand ≡ x))
       by (Some r, h) there =
           let k = in-plan b opening places shards parts n r h in

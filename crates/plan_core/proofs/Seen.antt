@@ -4,6 +4,7 @@ use Rattle.std.specs.List.{AllByRecursion}
 use Rattle.std.proofs.Math.ListN.{length-map, get_or-map}
 use Rattle.std.proofs.lemmas.List.{map-set, set-get_or}
 use Rattle.std.proofs.lemmas.Bool.{cases_eq}
+use Rattle.std.proofs.lemmas.Option.{get_or_from_slice_get, slice_get-get_or}
 use Rattle.valid_intervals.specs.declared.Point.{Point}
 use Rattle.valid_intervals.specs.declared.SignalCell.{SignalCell}
 use Rattle.batch_meaning.specs.Batches.{Batch}
@@ -25,7 +26,7 @@ use Rattle.plan_core.specs.inner.Places.{seat, seats, AreNumbered}
 use Rattle.plan_core.specs.inner.Parts.{blank, waited_shards, plan_at, IsPlan}
 use Rattle.plan_core.specs.Parts.{AreInOrder}
 use Rattle.plan_core.specs.inner.Turns.{IsSeen}
-use Rattle.plan_core.proofs.Lists.{set-same, read-at, get-or-at, numbers-set}
+use Rattle.plan_core.proofs.Lists.{set-same, numbers-set}
 
 pub shard-is : (ps : List (Option Strand)) (ms : List WaitedShard) (p : Point) → shard_of (plan_of blank ps ms) p ≡ (kept.waited_shard_at ms p).shard
 shard-is ps ms p =
@@ -76,7 +77,7 @@ module _ (b : Batch) (opening : ℕ → List SignalCell) (places : List (Option 
       at-home =
           let some_shard : 1 ≤ length shards = let k = parts.kept_plan.some in let l = shards-len in omega arith in
           let low : slot < length shards = omega arith in
-          read-at shards slot h0 low index
+          slice_get-get_or shards slot h0 low ∙ ap Some (sym index)
 
       pub number-is : h0.number ≡ slot
       number-is = parts.order slot h0 at-home
@@ -84,7 +85,7 @@ module _ (b : Batch) (opening : ℕ → List SignalCell) (places : List (Option 
       pub home : kept.waited_shard_at (waited_shards shards) p ≡ waited_shard h0
       home =
           ap (λ m. get_or (waited_shards shards) m no_waited_shard) (sym slot-waited)
-          ∙ get-or-at (waited_shards shards) slot (waited_shard h0) no_waited_shard (map-get waited_shard shards slot h0 at-home)
+          ∙ get_or_from_slice_get (waited_shards shards) slot (waited_shard h0) no_waited_shard (map-get waited_shard shards slot h0 at-home)
 
       pub shard-here : shard_of plan p ≡ h0.shard
       shard-here = shard-is (seats places) (waited_shards shards) p ∙ ap (λ (z : WaitedShard). z.shard) home

@@ -29,10 +29,10 @@ use Rattle.memo_shards.proofs.Seen.{waits-here, waits-other, waiting-seen, none-
 use Rattle.plan_core.specs.inner.Places.{seat, seats, AreNumbered, HaveNumbers, IsNextAt}
 use Rattle.plan_core.specs.inner.Parts.{waited_shards, plan_at, IsPlan}
 use Rattle.plan_core.specs.inner.Turns.{OfPlaceStep, OfTurn, IsSeen}
-use Rattle.plan_core.proofs.Lists.{numbers-none, put-apart, put-changed, have-numbers, stays-numbered, get-or-at}
+use Rattle.plan_core.proofs.Lists.{numbers-none, put-apart, put-changed, have-numbers, stays-numbered}
 use Rattle.plan_core.proofs.Seen.{here, in-plan, awake, home, homes, shard-here, seen, put-seen, rest-set, same-shard, number-is, shards-count}
 use Rattle.std.proofs.Math.ListN.{length-map, length-set}
-use Rattle.std.proofs.lemmas.Option.{slice_get_within}
+use Rattle.std.proofs.lemmas.Option.{get_or_from_slice_get, slice_get_within}
 use Rattle.circuit_meaning.specs.Cells.{cell_at}
 use Rattle.strand_meaning.specs.Strands as strands
 use Rattle.strand_meaning.proofs.Stacks.{fill-top, drop-top, top-held}
@@ -280,7 +280,7 @@ module _ (b : Batch) (opening : ℕ → List SignalCell) (places : List (Option 
   home-is = slot-is ∙ ap (λ (z : Point). z.signal % length shards) point
 
   there-is : o ≡ Some s0
-  there-is = o-is ∙ get-or-at places n (Some s0) o who.1.0
+  there-is = o-is ∙ get_or_from_slice_get places n (Some s0) o who.1.0
 
   pub turn-stands : (s : Demand) × ((o ≡ Some s) × (MayStep b h0 (next s.strand) s × (p ≡ step_point (next s.strand))))
   turn-stands = (s0, (there-is, (may-step b opening places shards parts n s0 who.1.0 slot h0 index (next s0.strand) refl (λ e. p-is.0 (sym who.1.1 ∙ e)) home-is, point)))

@@ -44,7 +44,7 @@ use Rattle.plan_machine.proofs.Underway.{IsNoFill, none-refused, goes-more, goes
 use Rattle.plan_machine.proofs.GivingUp.{refused-last, gone-last, refused-filled, refused-once, refused-own, refused-fed, starts-giving_up, goes-dropped, differ-left}
 
 -- a cell that covers a point says its cell
-says-cell : (p : Point) (x : SignalCell) → covers p x ≡ true → covers p (cell_for p x.cell) ≡ true
+pub says-cell : (p : Point) (x : SignalCell) → covers p x ≡ true → covers p (cell_for p x.cell) ≡ true
 says-cell p x h =
     let k = and_parts (nat_eq x.signal p.signal && nat_le x.cell.span.start p.time) (nat_lt p.time x.cell.span.stop) h in
     let l = and_parts (nat_eq x.signal p.signal) (nat_le x.cell.span.start p.time) k.0 in

@@ -26,6 +26,7 @@ use Rattle.journal_meaning.proofs.Windows.{right-entries, times-more, closed-by}
 use Rattle.batch_meaning.specs.Lawful.{IsLawful}
 use Rattle.batch_meaning.specs.Pieces.{Start, IsStart}
 use Rattle.strand_meaning.specs.Strands.{roots_from}
+use Rattle.strand_meaning.proofs.Wanted.{within-of}
 use Rattle.plan_machine.specs.Shards.{Shard, IsShard}
 use Rattle.plan_machine.specs.Plans.{Plan, no_shard, new_plan}
 use Rattle.plan_machine.specs.Sound.{IsFresh}
@@ -58,14 +59,14 @@ pub own-query : (b : Batch) → IsLawful b → (q r : Query) → Contains b.quer
 own-query b l = single b.queries l.numbers
 
 -- an evaluable point is of a signal of the circuit
-evaluable-signal : (t : ℕ) (ds : List Driver) (s : ℕ) → HasChildren t (get_or ds s (Input [])) → s < length ds
+pub evaluable-signal : (t : ℕ) (ds : List Driver) (s : ℕ) → HasChildren t (get_or ds s (Input [])) → s < length ds
 evaluable-signal t [] s h = absurd h
 evaluable-signal t (d ∷ ds) zero h = omega arith
 evaluable-signal t (d ∷ ds) (suc s) h = let k = evaluable-signal t ds s h in omega arith
 
 -- a start for one time has that one root
 module _ (c : Circuit) where
-  one-root : (a : Start) → a.stop ≡ a.start + 1 → roots_of c a ≡ record { signal = a.query.signal; time = a.start } ∷ []
+  pub one-root : (a : Start) → a.stop ≡ a.start + 1 → roots_of c a ≡ record { signal = a.query.signal; time = a.start } ∷ []
   unfolding roots_from
   one-root a e =
       let n : a.stop - a.start ≡ 1 = omega arith in
@@ -327,9 +328,6 @@ module _ (b : Batch) (lawful : IsLawful b) (opening : ℕ → List SignalCell) (
 
 -- a query of the batch
 module _ (b : Batch) (lawful : IsLawful b) (opening : ℕ → List SignalCell) (q : Query) (known : Contains b.queries q) (start : List Entry) where
-  pub within : q.to ≤ b.circuit.horizon + 1
-  within = All-contains (λ (r : Query). r.to ≤ b.circuit.horizon + 1) b.queries q lawful.windows known
-
   -- its window is covered as far as the cell of a root goes, and the end of the cell is the next root
   pub record IsWindowStep (t : ℕ) (mid : Standing) : Type 0 where
     pub later : t < (span b.circuit q.signal t).stop
@@ -339,7 +337,7 @@ module _ (b : Batch) (lawful : IsLawful b) (opening : ℕ → List SignalCell) (
   pub window-step : (first : List Shard) (s mid : Standing) (t : ℕ) → t < q.to → IsRoot b.circuit (window_of q) t → IsCoveredTo b.circuit q s t → Reaches b opening q start first s (record { signal = q.signal; time = t }) mid → IsWindowStep t mid
   window-step first s mid t low root times one =
       let c = b.circuit in
-      let l = within in
+      let l = within-of b lawful q known in
       let inside = (cell-covers c lawful.circuit t q.signal (omega arith)).inside.high in
       record {
         later = inside;
@@ -361,7 +359,7 @@ module _ (b : Batch) (lawful : IsLawful b) (opening : ℕ → List SignalCell) (
       by : (r : Bool) → {e : Bool} → e ≡ r → (now : List Entry) → StandsAs b.circuit q start now e → (e ≡ false → AreVisited b.circuit q start now) → (e ≡ false → AreTimesCovered b.circuit now q.signal q.from u) → IsSettled b.circuit q start now e
       by true {e} same now state visited times = subst (IsSettled b.circuit q start now) (sym same) (subst (StandsAs b.circuit q start now) same state)
       by false {e} same now state visited times =
-          subst (IsSettled b.circuit q start now) (sym same) (settles-closed b lawful q within start now (subst (StandsAs b.circuit q start now) same state) (visited same) u (times same) high)
+          subst (IsSettled b.circuit q start now) (sym same) (settles-closed b lawful q (within-of b lawful q known) start now (subst (StandsAs b.circuit q start now) same state) (visited same) u (times same) high)
 
 -- from one query to the next
 module _ (b : Batch) (opening : ℕ → List SignalCell) (start : List Entry) (q : Query) (added : List Entry) (own : Each (IsFor q.number) added) where
@@ -378,7 +376,7 @@ module _ (b : Batch) (opening : ℕ → List SignalCell) (start : List Entry) (q
   all-kept now new g (r ∷ done) [] ne h = absurd h
   all-kept now new g (r ∷ done) (f ∷ fs) ne h = (settled-kept b.circuit r start now added new g (others r.number ne.0) f h.0, all-kept now new g done fs ne.1 h.1)
 
-all-push : (c : Circuit) (start now : List Entry) (done : List Query) (refused : List Bool) (q : Query) (r : Bool) → AreAllSettled c start now done refused → IsSettled c q start now r → AreAllSettled c start now (done ++ q ∷ []) (refused ++ r ∷ [])
+pub all-push : (c : Circuit) (start now : List Entry) (done : List Query) (refused : List Bool) (q : Query) (r : Bool) → AreAllSettled c start now done refused → IsSettled c q start now r → AreAllSettled c start now (done ++ q ∷ []) (refused ++ r ∷ [])
 all-push c start now [] [] q r h k = (k, tt)
 all-push c start now [] (f ∷ fs) q r h k = absurd h
 all-push c start now (x ∷ done) [] q r h k = absurd h

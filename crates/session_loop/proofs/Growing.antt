@@ -1,11 +1,12 @@
 -- Texts that grow, piece by piece.
-use Rattle.std.proofs.Common.{◌≡◌, ℕ, zero, suc, List, [], ◌∷◌, ◌++◌, take, drop, Result, Ok, Err, refl, sym, ap, subst, ◌∙◌, append_assoc, append-nil}
+use Rattle.std.proofs.Common.{◌≡◌, ℕ, List, [], ◌++◌, take, drop, Result, Ok, Err, refl, sym, ap, subst, ◌∙◌, append_assoc, append-nil}
 use Rattle.std.specs.Prelude.{IsErrAnd}
 use Rattle.std.proofs.lemmas.List.{take-append-drop}
 use Rattle.backsim_io.specs.Counts.{Grows, GrowsByPrefix}
 use Rattle.owned_text.specs.Made.{Made}
 use Rattle.backsim_io.specs.FilesInMemory.{files_with, FileGrows, FileGrowsByPrefix}
 use Rattle.backsim_io.specs.State.{FilesState}
+use Rattle.backsim_io.proofs.Grown.{grown_twice, grown_none}
 use Rattle.session_meaning.specs.Broken.{IsPrefix}
 use Rattle.session_meaning.proofs.Journals.{prefix-again}
 use Rattle.session_loop.specs.declared.stop.JournalStop.{JournalStop}
@@ -43,21 +44,11 @@ grows-none w before h = subst w (sym (append-nil before)) h
 pub grows-more : (u v w : List ℕ → Type 0) (a b : List ℕ) → Grows u v a → Grows v w b → Grows u w (a ++ b)
 grows-more u v w a b f g before h = subst w (append_assoc before a b) (g (before ++ a) (f before h))
 
-pub grown-grown : (files : List Made) (slot : ℕ) (a b : List ℕ) → files_with (files_with files slot a) slot b ≡ files_with files slot (a ++ b)
-grown-grown [] slot a b = refl
-grown-grown (file ∷ files) zero a b = ap (λ bytes. record file { bytes = bytes } ∷ files) (append_assoc file.bytes a b)
-grown-grown (file ∷ files) (suc slot) a b = ap (λ fs. file ∷ fs) (grown-grown files slot a b)
-
-pub grown-none : (files : List Made) (slot : ℕ) → files_with files slot [] ≡ files
-grown-none [] slot = refl
-grown-none (file ∷ files) zero = ap (λ bytes. record file { bytes = bytes } ∷ files) (append-nil file.bytes)
-grown-none (file ∷ files) (suc slot) = ap (λ fs. file ∷ fs) (grown-none files slot)
-
 pub file-none : (m : List Made → Type 0) (slot : ℕ) → FileGrows m m slot []
-file-none m slot before h = subst m (sym (grown-none before slot)) h
+file-none m slot before h = subst m (sym (grown_none before slot)) h
 
 pub file-more : (u v w : List Made → Type 0) (slot : ℕ) (a b : List ℕ) → FileGrows u v slot a → FileGrows v w slot b → FileGrows u w slot (a ++ b)
-file-more u v w slot a b f g before h = subst w (grown-grown before slot a b) (g (files_with before slot a) (f before h))
+file-more u v w slot a b f g before h = subst w (grown_twice before slot a b) (g (files_with before slot a) (f before h))
 
 -- parts
 pub part-of : (u v : List ℕ → Type 0) (whole : List ℕ) → GrowsByPrefix u v whole → GrowsPart u v whole

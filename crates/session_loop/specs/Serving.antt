@@ -31,7 +31,7 @@ pub record IsServedUntil (setup : Setup) (script : List ℕ) (left : Option (Lis
 
 -- Where in its script a session broke off, of which this is left to be read. Every unit that the ended lines in the bytes `before` complete
 -- is whole. After them at most one byte was taken, or the script ended: that completes the unit that broke off. What was read beyond
--- `before` is at most one block of 4,096 bytes, so nothing was read while a complete unit waited.
+-- `before` is at most one block of 4,096 bytes.
 pub record BreaksIn (setup : Setup) (script : List ℕ) (left : Option (List ℕ)) (says : List ScriptUnit → List ScriptUnit → Type 0) : Type 0 where
   pub before : List ℕ
   pub last : List ℕ

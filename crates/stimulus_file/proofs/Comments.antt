@@ -3,6 +3,7 @@ use Rattle.std.proofs.Common.{◌≡◌, ℕ, Bool, true, false, ◌&&◌, not, 
 use Rattle.std.specs.List.{list_all}
 use Rattle.std.specs.Prelude.{codes}
 use Rattle.std.specs.Str.{bytes_eq}
+use Rattle.std.proofs.lemmas.Slice.Eq.{bytes_eq-Decides}
 use Rattle.gate_values.specs.declared.Value.{Value}
 use Rattle.gate_values.specs.Spelling.{value_of_byte, value_of_word}
 use Rattle.text_rules.specs.declared.Amount.{Amount}
@@ -13,7 +14,6 @@ use Rattle.stimulus_file.specs.declared.form.Form.{Form}
 use Rattle.stimulus_file.specs.declared.form.Form.TheVariants as forms
 use Rattle.stimulus_file.specs.Forms.{Other, horizon_of_amount, horizon_line, setting_of_parts, setting_line, by_words, line_of}
 use Rattle.stimulus_file.specs.inner.Reading.{line_seen}
-use Rattle.stimulus_file.proofs.Naming.{same_name}
 
 abbrev AreClean : List (List ℕ) → Type 0
 AreClean ws = list_all is_clean ws ≡ true
@@ -27,7 +27,7 @@ amount_clean limit word some = cases (is_number word) refl some
     cases false e some = absurd (some refl)
 
 word_clean : (word known : List ℕ) → is_clean known ≡ true → bytes_eq word known ≡ true → is_clean word ≡ true
-word_clean word known clean same = subst (λ (w : List ℕ). is_clean w ≡ true) (sym (same_name word known same)) clean
+word_clean word known clean same = subst (λ (w : List ℕ). is_clean w ≡ true) (sym ((bytes_eq-Decides word known).0 same)) clean
 
 value_clean : (word : List ℕ) (value : Value) → value_of_word word ≡ Some value → is_clean word ≡ true
 value_clean [] value h = refl

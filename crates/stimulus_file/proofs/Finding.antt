@@ -7,7 +7,7 @@ use Rattle.std.specs.Ordering.{nat_cmp, is_eq, eq_by_cmp}
 use Rattle.std.specs.Cmp.{tied_then, unsigned_tied}
 use Rattle.std.specs.BTreeMap.{get}
 use Rattle.std.specs.BTreeSet.{BTreeSet, contains, IsFromIterResult}
-use Rattle.std.proofs.lemmas.Bool.{ltb-true}
+use Rattle.std.proofs.lemmas.Bool.{and_parts, ltb-true}
 use Rattle.std.proofs.lemmas.List.{get_or_push}
 use Rattle.std.proofs.lemmas.List.Elements.{All-push}
 use Rattle.std.proofs.lemmas.List.Folds.{list_any-append}
@@ -16,7 +16,7 @@ use Rattle.stimulus_file.specs.declared.NumberedSet.{NumberedSet}
 use Rattle.stimulus_file.specs.declared.names.Names.{Names}
 use Rattle.stimulus_file.specs.Named.{named_rows, HavePlaces}
 use Rattle.stimulus_file.specs.inner.KeptSettings.{is_at, key_cmp, name_cmp, AreLatest, ArePlaces, IsPlace, StandsAt, HasNames, HasSeen, Finds, Tells}
-use Rattle.stimulus_file.proofs.Naming.{both, swapped, beyond, named_more, places_more, place_new, places_first, latest_push, grows_more, grows_at, reaches, long_as, with_time, is_later as later_at}
+use Rattle.stimulus_file.proofs.Naming.{swapped, beyond, named_more, places_more, place_new, places_first, latest_push, grows_more, grows_at, reaches, long_as, with_time, is_later as later_at}
 
 module _ (old new : Names) (sets : List NumberedSet) (q : Bor (List ℕ)) (time : ℕ) (has : HasNames old sets) where
   -- a name that is known
@@ -26,7 +26,7 @@ module _ (old new : Names) (sets : List NumberedSet) (q : Bor (List ℕ)) (time 
     same = ap (λ (t : List (List ℕ)). named_rows t sets) texts;
     placed = subst (λ (t : List (List ℕ)). HavePlaces t sets) (sym texts) has.placed;
     place = subst (λ (t : List (List ℕ)). IsPlace t q.now place) (sym texts) is;
-    later = λ l. has.latest place time (ltb-true (get_or old.latest.items place 0) time (both (ltb place (length old.latest.items)) _ (sym later ∙ l)).1);
+    later = λ l. has.latest place time (ltb-true (get_or old.latest.items place 0) time (and_parts (ltb place (length old.latest.items)) _ (sym later ∙ l)).1);
     next = λ line value. next line value;
   }
     where

@@ -3,15 +3,15 @@ use Rattle.std.proofs.Common.{◌≡◌, ℕ, true, List, [], ◌∷◌, ◌++�
 use Rattle.std.specs.Prelude.{codes}
 use Rattle.std.specs.Str.{bytes_eq}
 use Rattle.std.proofs.lemmas.List.{take-append-drop}
+use Rattle.std.proofs.lemmas.Slice.Eq.{bytes_eq-Decides}
 use Rattle.text_rules.specs.Text.{words}
 use Rattle.stimulus_file.specs.Forms.{Other, by_words}
-use Rattle.stimulus_file.proofs.Naming.{same_name}
 
 -- `set` and a space
 pub set_words : (bytes rest : List ℕ) → bytes_eq (take 4 bytes) (codes "set ") ≡ true → rest ≡ drop 4 bytes → words bytes ≡ codes "set" ∷ words rest
 unfolding words
 set_words bytes rest front is =
-    ap words (sym (take-append-drop 4 bytes) ∙ ap (λ (l : List ℕ). l ++ drop 4 bytes) (same_name (take 4 bytes) (codes "set ") front))
+    ap words (sym (take-append-drop 4 bytes) ∙ ap (λ (l : List ℕ). l ++ drop 4 bytes) ((bytes_eq-Decides (take 4 bytes) (codes "set ")).0 front))
     ∙ ap (λ (l : List ℕ). codes "set" ∷ words l) (sym is)
 
 -- more than a word after `horizon`

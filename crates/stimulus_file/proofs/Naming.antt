@@ -3,7 +3,8 @@ use Rattle.std.proofs.Common.{◌≡◌, ℕ, zero, suc, ◌+◌, ◌<◌, ◌�
 use Rattle.std.specs.List.{list_any}
 use Rattle.std.specs.Str.{bytes_eq}
 use Rattle.std.specs.Borrow.{Bor}
-use Rattle.std.proofs.lemmas.Bool.{cases_eq, cases_lt, ltb-true, ltb-false, lt-ltb}
+use Rattle.std.specs.Cmp.{both_ways}
+use Rattle.std.proofs.lemmas.Bool.{false_from_ne_true, and_parts, cases_eq, cases_lt, ltb-true, ltb-false, lt-ltb}
 use Rattle.std.proofs.lemmas.List.{get_or_append_left, get_or_push, get_or-set_same, get_or-set_other, length-set}
 use Rattle.std.proofs.lemmas.List.Elements.{All-head, All-tail, All-weaker}
 use Rattle.std.proofs.lemmas.List.Folds.{list_any-append}
@@ -15,24 +16,8 @@ use Rattle.stimulus_file.specs.Stimulus.{SetRow, sets, row_of}
 use Rattle.stimulus_file.specs.Named.{named_rows, HavePlaces}
 use Rattle.stimulus_file.specs.inner.KeptSettings.{is_at, AreLatest, IsPlace, StandsAt}
 
-pub is_false : (b : Bool) → (b ≡ true → ⊥) → b ≡ false
-is_false true never = absurd (never refl)
-is_false false never = refl
-
-pub both : (a b : Bool) → (a && b) ≡ true → (a ≡ true) × (b ≡ true)
-both true b h = (refl, h)
-both false b h = absurd cc
-
-same_tests : (a b : Bool) → (a ≡ true → b ≡ true) → (b ≡ true → a ≡ true) → a ≡ b
-same_tests true b f g = sym (f refl)
-same_tests false true f g = g refl
-same_tests false false f g = refl
-
 pub swapped : (a b : ℕ) → eqb a b ≡ eqb b a
-swapped a b = same_tests (eqb a b) (eqb b a) (λ h. eq-eqb b a (sym (eqb-true a b h))) (λ h. eq-eqb a b (sym (eqb-true b a h)))
-
-pub same_name : (a b : List ℕ) → bytes_eq a b ≡ true → a ≡ b
-same_name a b h = (bytes_eq-Decides a b).0 h
+swapped a b = both_ways (eqb a b) (eqb b a) (λ h. eq-eqb b a (sym (eqb-true a b h))) (λ h. eq-eqb a b (sym (eqb-true b a h)))
 
 other_name : (a b : List ℕ) → bytes_eq a b ≡ false → a ≡ b → ⊥
 other_name a b h e = let t : bytes_eq a b ≡ true = (bytes_eq-Decides a b).1 e in absurd cc
@@ -53,7 +38,7 @@ module _ (names : List (List ℕ)) where
   -- the name at a place is the one that has that place
   place_test : (i : ℕ) (name : List ℕ) (place : ℕ) → i < length names → IsPlace names name place → bytes_eq (get_or names i []) name ≡ eqb place i
   place_test i name place lt p =
-      same_tests (bytes_eq (get_or names i []) name) (eqb place i) (λ h. eq-eqb place i (sym (p.only i lt (same_name (get_or names i []) name h))))
+      both_ways (bytes_eq (get_or names i []) name) (eqb place i) (λ h. eq-eqb place i (sym (p.only i lt ((bytes_eq-Decides (get_or names i []) name).0 h))))
       (λ h. (bytes_eq-Decides (get_or names i []) name).1 (ap (λ (k : ℕ). get_or names k []) (sym (eqb-true place i h)) ∙ p.there))
 
   -- a name is set at a time as its place is
@@ -69,7 +54,7 @@ module _ (names : List (List ℕ)) where
   beyond [] time h = refl
   beyond (x ∷ xs) time h =
       let lt : x.name < length names = All-head (λ (s : NumberedSet). s.name < length names) x xs h in
-      let never : eqb (length names) x.name ≡ false = is_false (eqb (length names) x.name) (λ t. let e = eqb-true (length names) x.name t in absurd (omega (arith, e))) in
+      let never : eqb (length names) x.name ≡ false = false_from_ne_true (eqb (length names) x.name) (λ t. let e = eqb-true (length names) x.name t in absurd (omega (arith, e))) in
       let rest : list_any (is_at (length names) time) xs ≡ false = beyond xs time (All-tail (λ (s : NumberedSet). s.name < length names) x xs h) in
       rw (never, rest) refl
 
@@ -137,7 +122,7 @@ module _ (names : List (List ℕ)) (q : Bor (List ℕ)) (f : Bor (List ℕ) → 
       others differ (Some i) h = place_other names q.now p.now i differ h
 
       either : (b : Bool) → bytes_eq q.now p.now ≡ b → StandsAt (names ++ q.now ∷ []) p.now (cond b (Some (length names)) (f p))
-      either true same = subst (λ (n : List ℕ). IsPlace (names ++ q.now ∷ []) n (length names)) (same_name q.now p.now same) (place_new names q.now never)
+      either true same = subst (λ (n : List ℕ). IsPlace (names ++ q.now ∷ []) n (length names)) ((bytes_eq-Decides q.now p.now).0 same) (place_new names q.now never)
       either false differ = others differ (f p) (known p)
 
 -- ---- the latest times
@@ -147,7 +132,7 @@ pub latest_push : (latest after : List ℕ) (xs : List NumberedSet) (x : Numbere
 latest_push latest after xs x old grows new place time lt =
     let le = grows place in
     let before : list_any (is_at place time) xs ≡ false = old place time (omega (arith, le, lt)) in
-    let last : is_at place time x ≡ false = is_false (is_at place time x) (λ t. apart (both (eqb place x.name) (eqb time x.time) t)) in
+    let last : is_at place time x ≡ false = false_from_ne_true (is_at place time x) (λ t. apart (and_parts (eqb place x.name) (eqb time x.time) t)) in
     list_any-append (is_at place time) xs (x ∷ []) ∙ ap₂ (λ (a b : Bool). a || (b || false)) before last
   where
     apart : (eqb place x.name ≡ true) × (eqb time x.time ≡ true) → ⊥
@@ -174,7 +159,7 @@ module _ (latest : List ℕ) (place time : ℕ) where
   grows_at false e i = omega arith
   grows_at true e i = elim (cases_eq i place) [
     | inl same ↦
-        let two = both (ltb place (length latest)) (ltb (get_or latest place 0) time) e in
+        let two = and_parts (ltb place (length latest)) (ltb (get_or latest place 0) time) e in
         let less = ltb-true (get_or latest place 0) time two.1 in
         subst (λ (k : ℕ). get_or latest k 0 ≤ get_or (set latest place time) k 0) (sym same) (rw (get_or-set_same latest place time 0 (ltb-true place (length latest) two.0)) (omega (arith, less)))
     | inr other ↦ rw (get_or-set_other latest place i time 0 other) (omega arith)

@@ -29,7 +29,7 @@ module _ (c : Circuit) (ok : IsCircuit c) (q : Query) (within : q.to ≤ c.horiz
       let alike = needed-alike c site.signal site.value ok (at_point x.signal x.from) n.1 p.signal p.time here in
       (needed-alone (forced_circuit c site.signal site.value) (held-fits c site.signal site.value ok) (window_of q) within x.signal x.from n.0 p.signal p.time alike.0, alike.1)
 
-within-of : (b : Batch) → IsLawful b → (q : Query) → Contains b.queries q → q.to ≤ b.circuit.horizon + 1
+pub within-of : (b : Batch) → IsLawful b → (q : Query) → Contains b.queries q → q.to ≤ b.circuit.horizon + 1
 within-of b l q (k, h, e) = subst (λ (x : Query). x.to ≤ b.circuit.horizon + 1) e (l.windows k q h)
 
 pub needed-of : (b : Batch) → IsLawful b → (q : Query) → IsQueryOf b q → (p : Point) → IsNeeded b.circuit (window_of q) p.signal p.time → OfQuery b q.number (λ y. IsNeededBy b y p)

@@ -22,7 +22,7 @@ use Rattle.journal_meaning.specs.Answers.{IsSpent}
 use Rattle.journal_meaning.specs.Grown.{IsSaid, IsFor}
 use Rattle.journal_meaning.specs.States.{Claim, without_point}
 use Rattle.journal_meaning.proofs.Claims.{own-covers}
-use Rattle.journal_meaning.proofs.Lists.{pairs_to}
+use Rattle.journal_meaning.proofs.Lists.{contains-one, pairs_to}
 use Rattle.strand_meaning.specs.declared.Next.TheVariants.{Ask, Fill}
 use Rattle.strand_meaning.specs.Strands.{Frame, Strand, next, rest, after_answer, after_claim, given_up, after_fill, asked_children, IsStrand, left_in, IsFirst, IsChain}
 use Rattle.strand_meaning.proofs.Stacks.{IsTop, asks-first, fill-top, fill-heard, top-held}
@@ -35,8 +35,9 @@ use Rattle.plan_machine.specs.inner.Settle.{IsStanding}
 use Rattle.plan_machine.proofs.Shards.{found}
 use Rattle.plan_machine.proofs.Journals.{evictions-each, room-journal}
 use Rattle.plan_machine.proofs.Measure.{told-less, claimed-less, finished-less}
-use Rattle.plan_machine.proofs.Underway.{IsNoFill, contains-one, each-contains, none-refused, goes-more, goes-heard, goes-claimed, goes-popped}
+use Rattle.plan_machine.proofs.Underway.{IsNoFill, each-contains, none-refused, goes-more, goes-heard, goes-claimed, goes-popped}
 use Rattle.plan_machine.proofs.GivingUp.{asked-apart, stack-differ}
+use Rattle.plan_machine.proofs.Alone.{says-cell}
 use Rattle.demand_points.specs.Demands.{Demand, TakesStep}
 use Rattle.memo_shards.specs.KeptShards.{KeptShard}
 use Rattle.memo_shards.specs.Asks.{Tells, ClaimsIt, Refuses}
@@ -52,13 +53,6 @@ use Rattle.stuck_faults.specs.inner.Steps.{AsksFurther, IsNotFree}
 use Rattle.stuck_faults.proofs.Holding.{Holds, holds-heard, holds-claimed, holds-rest}
 use Rattle.stuck_faults.proofs.Held.{held-lawful}
 use Rattle.stuck_faults.proofs.Mirrors.{mirrors-more, mirrors-kept, mirrors-heard}
-
--- a cell that covers a point says its cell
-says-cell : (p : Point) (x : SignalCell) → covers p x ≡ true → covers p (cell_for p x.cell) ≡ true
-says-cell p x h =
-    let k = and_parts (nat_eq x.signal p.signal && nat_le x.cell.span.start p.time) (nat_lt p.time x.cell.span.stop) h in
-    let l = and_parts (nat_eq x.signal p.signal) (nat_le x.cell.span.start p.time) k.0 in
-    and_from _ _ (and_from _ _ (eq-eqb p.signal p.signal refl) l.1) k.1
 
 -- an eviction ends no claim
 room-claims : (capacity : ℕ) (x : SignalCell) (h : Shard) → (with_room capacity x h).state.claims ≡ h.state.claims

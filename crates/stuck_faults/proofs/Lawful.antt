@@ -8,6 +8,7 @@ use Rattle.circuit_meaning.specs.Forced.{IsFree}
 use Rattle.circuit_meaning.specs.Need.{HasChildren, IsEvaluable, IsNeeded}
 use Rattle.circuit_meaning.proofs.Alike.{free-alike}
 use Rattle.circuit_meaning.proofs.Roots.{needed-before}
+use Rattle.journal_meaning.proofs.Lists.{contains-one}
 use Rattle.batch_meaning.specs.declared.Query.{Query}
 use Rattle.batch_meaning.specs.Batches.{Batch, Site, NeedOf, IsNeededBy, window_of}
 use Rattle.batch_meaning.specs.Lawful.{IsLawful}
@@ -16,7 +17,6 @@ use Rattle.strand_meaning.specs.Strands.{Strand, next, IsStrand}
 use Rattle.strand_meaning.proofs.Wanted.{asks-needed}
 use Rattle.session_meaning.proofs.Narrow.{evaluable-low}
 use Rattle.session_meaning.specs.StuckSignals.{stuck_circuit, held_batch}
-use Rattle.plan_machine.proofs.Underway.{contains-one}
 use Rattle.stuck_faults.proofs.Held.{window-within, held-lawful}
 
 module _ (b : Batch) (lawful : IsLawful b) (site : Site) (q : Query) (queries : b.queries ≡ q ∷ []) where

@@ -6,15 +6,15 @@ use Rattle.valid_intervals.specs.declared.Point.{Point}
 use Rattle.valid_intervals.specs.Cells.{cell_for}
 use Rattle.circuit_meaning.specs.Circuit.{Circuit}
 use Rattle.circuit_meaning.specs.Forced.{IsFree}
+use Rattle.journal_meaning.proofs.Lists.{contains-one}
 use Rattle.batch_meaning.specs.Batches.{Site}
 use Rattle.journal_meaning.specs.declared.Entry.{Entry}
 use Rattle.journal_meaning.specs.declared.Entry.TheVariants.{Told, Claimed, Filled, Evicted, Dropped, Spent}
 use Rattle.journal_meaning.specs.Answers.{Says, IsCovered, is_fill_of}
 use Rattle.journal_meaning.specs.Grown.{IsSaid}
 use Rattle.journal_meaning.proofs.Grown.{count-append}
-use Rattle.journal_meaning.proofs.Index.{point-is}
+use Rattle.valid_intervals.proofs.PointOrder.{point-is}
 use Rattle.why_proofs.proofs.Sound.{covers-from}
-use Rattle.plan_machine.proofs.Underway.{contains-one}
 use Rattle.session_meaning.specs.StuckSignals.{stuck_circuit, IsCoveredBy}
 use Rattle.stuck_faults.specs.inner.Both.{IsHeardThere, Mirrors, AreKept}
 

@@ -24,8 +24,7 @@ use Rattle.design.specs.Joined.{IsDesign}
 use Rattle.demand_points.specs.Demands.{Demand}
 use Rattle.memo_shards.specs.KeptShards.{KeptShard}
 use Rattle.plan_core.specs.InTurn.{AreStarted}
-use Rattle.plan_core.specs.Parts.{shards_in, strands_in, AreInOrder}
-use Rattle.asked_cells.specs.Shards.{AreNumbered}
+use Rattle.plan_core.specs.Parts.{shards_in, strands_in}
 use Rattle.window_answers.specs.Strands.{IsInOrder}
 use Rattle.window_answers.specs.Settlement.{HasSettled}
 use Rattle.session_meaning.specs.Session.{Setup, batch_of}
@@ -108,10 +107,6 @@ module _ (c : Circuit) (qs : List Query) (strands : List Demand) (order : IsInOr
   -- and as many as the pieces
   pub strands-many : length strands ≡ length (flat_map pieces qs)
   strands-many = sym (length-map strands (λ (s : Demand). s.strand)) ∙ ap length same ∙ length-map (flat_map pieces qs) (started_strand c)
-
--- shards in order are numbered
-pub order-numbers : (ms : List KeptShard) → AreInOrder ms → AreNumbered ms
-order-numbers ms order n d low = order n (get_or ms n d) (slice_get-get_or ms n d low)
 
 -- shards as a plan begins have no claim
 pub fresh-free : (b : Batch) (opening : ℕ → List SignalCell) (ms : List KeptShard) → IsFresh b opening (shards_in ms) → All (λ m. m.shard.state.claims ≡ []) ms

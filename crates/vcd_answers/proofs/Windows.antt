@@ -6,25 +6,12 @@ use Rattle.std.specs.List.{range_with_len}
 use Rattle.gate_values.specs.declared.Value.{Value}
 use Rattle.gate_values.specs.declared.Value.TheVariants.{Zero, One, X, Z}
 use Rattle.gate_values.specs.Gates.{same_value}
+use Rattle.gate_values.proofs.Same.{same-sym, same_is}
 use Rattle.circuit_meaning.specs.declared.Run.{Run}
 use Rattle.circuit_meaning.specs.Circuit.{Circuit}
 use Rattle.circuit_meaning.specs.Forward.{value, wave}
 use Rattle.window_walks.specs.Runs.{changes_from, maximal_runs}
 use Rattle.vcd_answers.specs.Wires.{changes_of, shown_value, wire_runs}
-
-pub same-sym : (v w : Value) → same_value v w ≡ same_value w v
-same-sym Zero Zero = refl
-same-sym One One = refl
-same-sym X X = refl
-same-sym Z Z = refl
-same-sym v w = refl
-
-pub same_is : (v w : Value) → same_value v w ≡ true → v ≡ w
-same_is Zero Zero h = refl
-same_is One One h = refl
-same_is X X h = refl
-same_is Z Z h = refl
-same_is v w h = absurd cc
 
 same_self : (v w : Value) → v ≡ w → same_value v w ≡ true
 same_self Zero Zero e = refl

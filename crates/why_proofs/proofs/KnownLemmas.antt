@@ -1,9 +1,8 @@
 -- What is found among the accepted lines, by an index of their signals and first times.
-use Rattle.std.proofs.Common.{◌≡◌, ℕ, zero, suc, ◌≤◌, ◌&&◌, nat_eq, Bool, true, false, cond, List, [], ◌∷◌, ◌++◌, Option, Some, None, IsSome, MatchOption, Contains, option_map, refl, sym, ap, ap₂, subst, ◌∙◌, arith, inl, inr, ◌⊎◌, eqb-true, eq-eqb, le-leb, lt-ltb}
+use Rattle.std.proofs.Common.{◌≡◌, ℕ, zero, suc, ◌≤◌, Bool, true, false, cond, List, [], ◌∷◌, ◌++◌, Option, Some, None, IsSome, MatchOption, Contains, option_map, refl, sym, ap, subst, ◌∙◌, arith, inl, inr, ◌⊎◌, eq-eqb, le-leb, lt-ltb}
 use Rattle.std.specs.Prelude.{find}
 use Rattle.std.specs.List.{AllByRecursion}
-use Rattle.std.proofs.lemmas.Bool.{and_parts, and_from, cases_Bool}
-use Rattle.std.proofs.lemmas.Bool.Decides.{nat_tests}
+use Rattle.std.proofs.lemmas.Bool.{and_from, cases_Bool}
 use Rattle.std.proofs.lemmas.List.Elements.{Contains-append_left, Contains-append_cases, Contains-push}
 use Rattle.std.specs.Ordering.{is_eq, is_gt, is_lt}
 use Rattle.valid_intervals.specs.declared.Cell.{Cell}
@@ -11,6 +10,7 @@ use Rattle.valid_intervals.specs.declared.Point.{Point}
 use Rattle.valid_intervals.specs.declared.SignalCell.{SignalCell}
 use Rattle.valid_intervals.specs.Spans.{IsIn}
 use Rattle.valid_intervals.specs.Cells.{covers, point_cmp}
+use Rattle.valid_intervals.proofs.PointOrder.{same-place, itself, not-behind, signal-up, signal-down, time-up, time-down}
 use Rattle.circuit_meaning.specs.Circuit.{Circuit, IsCircuit}
 use Rattle.circuit_meaning.specs.Cells.{cell_at, point_at}
 use Rattle.circuit_meaning.specs.Base.{base_answer}
@@ -21,33 +21,6 @@ use Rattle.why_proofs.specs.Justified.{base_or, line_at}
 use Rattle.why_proofs.specs.Laws.{IsTrueLine}
 use Rattle.why_proofs.specs.inner.Known.{place_of, IsTrueCell, AreTrueCells, IsStated, IsIndexOf}
 use Rattle.why_proofs.proofs.Sound.{Covers, covers-from, steady}
-
-point-is : (a b : Point) → a.signal ≡ b.signal → a.time ≡ b.time → a ≡ b
-point-is a b e f = let at : ℕ → ℕ → Point = λ s t. record { signal = s; time = t } in ap₂ at e f
-
-same-place : (a b : Point) → is_eq (point_cmp a b) ≡ true → a ≡ b
-same-place a b h =
-    let e : is_eq (point_cmp a b) ≡ (nat_eq a.signal b.signal && nat_eq a.time b.time) = grind (arith, nat_tests) in
-    let k = and_parts (nat_eq a.signal b.signal) (nat_eq a.time b.time) (sym e ∙ h) in
-    point-is a b (eqb-true a.signal b.signal k.0) (eqb-true a.time b.time k.1)
-
-itself : (a : Point) → is_eq (point_cmp a a) ≡ true
-itself a = grind (arith, nat_tests)
-
-not-behind : (a b : Point) → a.signal ≡ b.signal → a.time ≤ b.time → is_gt (point_cmp a b) ≡ false
-not-behind a b e l = grind (arith, nat_tests)
-
-signal-up : (a b : Point) → is_gt (point_cmp a b) ≡ false → a.signal ≤ b.signal
-signal-up a b h = grind (arith, nat_tests)
-
-signal-down : (a b : Point) → is_lt (point_cmp a b) ≡ false → b.signal ≤ a.signal
-signal-down a b h = grind (arith, nat_tests)
-
-time-up : (a b : Point) → is_gt (point_cmp a b) ≡ false → a.signal ≡ b.signal → a.time ≤ b.time
-time-up a b h e = grind (arith, nat_tests)
-
-time-down : (a b : Point) → is_lt (point_cmp a b) ≡ false → a.signal ≡ b.signal → b.time ≤ a.time
-time-down a b h e = grind (arith, nat_tests)
 
 covers-to : (x : SignalCell) (s t : ℕ) → Covers x s t → covers (point_at s t) x ≡ true
 covers-to x s t h = and_from _ _ (and_from _ _ (eq-eqb x.signal s h.signal) (le-leb _ _ h.inside.low)) (lt-ltb _ _ h.inside.high)

@@ -28,6 +28,7 @@ use Rattle.circuit_meaning.proofs.Equations.{map_same, all_imply, value_is, span
 use Rattle.circuit_meaning.proofs.Steady.{seen-early, seen-late, pin_span-early, pin_span-late, cell-steady}
 use Rattle.circuit_meaning.proofs.BaseCells.{base-answers}
 use Rattle.design.specs.Joined.{Joined}
+use Rattle.pin_walks.proofs.PinWalkLemmas.{take-none}
 use Rattle.why_proofs.specs.Spelling.{Proof}
 use Rattle.why_proofs.specs.Justified.{Answers, base_or, line_at, answer, value_in, span_in, looked_in, IsAnswered, AreAnswered, rule_value, rule_span, rule_cell, IsJustified, AreJustified, IsJustifiedProof}
 use Rattle.why_proofs.specs.Laws.{IsTrueLine}
@@ -154,10 +155,6 @@ module _ (c : Circuit) (ok : IsCircuit c) where
 abbrev pub grown : {A : Type 0} → List A → Option A → List A
 grown xs None = xs
 grown xs (Some x) = xs ++ x ∷ []
-
-take-none : {A : Type 0} (xs : List A) → take 0 xs ≡ []
-take-none [] = refl
-take-none (x ∷ xs) = refl
 
 cons-grown : {A : Type 0} (x : A) (xs : List A) (o : Option A) → x ∷ grown xs o ≡ grown (x ∷ xs) o
 cons-grown x xs None = refl

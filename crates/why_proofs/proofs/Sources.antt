@@ -1,23 +1,20 @@
 -- The children of a point are answered exactly where the sources are that forward simulation looks at.
-use Rattle.std.proofs.Common.{◌≡◌, ℕ, ◌-◌, ◌<◌, nat_lt, Bool, true, false, cond, List, [], ◌∷◌, length, map, get_or, Option, Some, None, IsSome, IfSome, refl, sym, ap, subst, ◌∙◌, arith, inl, inr, lt-ltb, le-ltb}
+use Rattle.std.proofs.Common.{◌≡◌, ℕ, ◌-◌, ◌<◌, nat_lt, Bool, true, false, cond, List, [], length, map, get_or, Option, Some, None, IsSome, IfSome, sym, ap, subst, ◌∙◌, arith, inl, inr, lt-ltb, le-ltb}
 use Rattle.std.specs.List.{AllByRecursion}
 use Rattle.std.proofs.lemmas.Bool.{cases_lt}
 use Rattle.std.proofs.lemmas.List.Elements.{recursion_from_All, All-from_recursion}
 use Rattle.std.proofs.lemmas.List.{get_or_default}
-use Rattle.gate_values.specs.declared.Value.TheVariants.{X}
-use Rattle.gate_values.specs.declared.Kind.{Kind}
 use Rattle.gate_values.specs.declared.Kind.TheVariants.{Dff}
 use Rattle.gate_values.specs.Gates.{decides, up_to_first}
-use Rattle.gate_values.proofs.Looked.{cut_alike, map-up_to_first}
 use Rattle.valid_intervals.specs.declared.Point.{Point}
 use Rattle.flip_flops.specs.Edges.{shown_edge}
 use Rattle.circuit_meaning.specs.declared.Pin.{Pin}
 use Rattle.circuit_meaning.specs.Circuit.{Circuit, Driver, Input, Gate, Flop, driver, IsCircuit}
-use Rattle.circuit_meaning.specs.Forward.{value, seen_value}
 use Rattle.circuit_meaning.specs.Cells.{looked_pins}
 use Rattle.circuit_meaning.specs.Looks.{kind_of, pin_point, flop_points, pin_points_at, sees}
-use Rattle.circuit_meaning.proofs.Steady.{map_all}
+use Rattle.circuit_meaning.proofs.Steady.{all_map, map_all}
 use Rattle.circuit_meaning.proofs.Equations.{all_imply}
+use Rattle.circuit_meaning.proofs.Looking.{cut-sources}
 use Rattle.why_proofs.specs.Justified.{Answers, looked_in, IsAnswered, AreAnswered}
 use Rattle.valid_intervals.specs.declared.Cell.{Cell}
 use Rattle.circuit_meaning.specs.Cells.{cell_at}
@@ -25,22 +22,6 @@ use Rattle.pin_walks.specs.declared.walk.PinWalk.{PinWalk}
 use Rattle.pin_walks.specs.PinWalks.{looked_at, next_point}
 use Rattle.why_proofs.specs.inner.Known.{IsKnown, AreKnown, IsRuled}
 use Rattle.why_proofs.proofs.Sound.{AreRight, looked-from, looked-to}
-
-all_of : {A : Type 0} (P : A → Type 0) → ((a : A) → P a) → (xs : List A) → AllByRecursion P xs
-all_of P h [] = tt
-all_of P h (x ∷ xs) = (h x, all_of P h xs)
-
-all-unmap : {A B : Type 0} (P : B → Type 0) (f : A → B) (xs : List A) → AllByRecursion P (map f xs) → AllByRecursion (λ a. P (f a)) xs
-all-unmap P f [] h = tt
-all-unmap P f (x ∷ xs) h = (h.0, all-unmap P f xs h.1)
-
-sees-source : (c : Circuit) (t : ℕ) (p : Pin) → sees c (pin_point t p) ≡ seen_value (value c) t p
-sees-source c t p = elim (nat_lt t p.delay) as (λ b. sees c (cond b None (Some (record { signal = p.signal; time = t - p.delay }))) ≡ cond b X (value c p.signal (t - p.delay))) [ true ↦ refl | false ↦ refl ]
-
-cut-sources : (c : Circuit) (t : ℕ) (kind : Kind) (pins : List Pin) → map (pin_point t) (looked_pins c t kind pins) ≡ up_to_first (λ o. decides kind (sees c o)) (map (pin_point t) pins)
-cut-sources c t kind pins =
-    ap (map (pin_point t)) (cut_alike (decides kind) (λ p. sees c (pin_point t p)) (seen_value (value c) t) pins (all_of (λ p. sees c (pin_point t p) ≡ seen_value (value c) t p) (sees-source c t) (up_to_first (λ p. decides kind (sees c (pin_point t p))) pins)))
-    ∙ map-up_to_first (λ o. decides kind (sees c o)) (pin_point t) pins
 
 source-known : (a : Answers) (t : ℕ) (p : Pin) → IsAnswered a t p → IsKnown a (pin_point t p)
 source-known a t p h = elim (cases_lt t p.delay) [
@@ -80,7 +61,7 @@ module _ (c : Circuit) (ok : IsCircuit c) (a : Answers) (right : AreRight c ok a
   known-to t (Input settings) h = tt
   known-to t (Gate kind pins) h =
       let mapped : AllByRecursion (IsKnown a) (map (pin_point t) (looked_pins c t kind pins)) = subst (AllByRecursion (IsKnown a)) (sym (cut-sources c t kind pins)) h in
-      let true-pins : AllByRecursion (IsAnswered a t) (looked_pins c t kind pins) = all_imply (λ p. IsKnown a (pin_point t p)) (IsAnswered a t) (source-answered a t) (looked_pins c t kind pins) (all-unmap (IsKnown a) (pin_point t) (looked_pins c t kind pins) mapped) in
+      let true-pins : AllByRecursion (IsAnswered a t) (looked_pins c t kind pins) = all_imply (λ p. IsKnown a (pin_point t p)) (IsAnswered a t) (source-answered a t) (looked_pins c t kind pins) (all_map (IsKnown a) (pin_point t) (looked_pins c t kind pins) mapped) in
       All-from_recursion (IsAnswered a t) (looked_in a t kind pins) (subst (AllByRecursion (IsAnswered a t)) (sym (looked-to c ok a right t kind pins true-pins)) true-pins)
   known-to t (Flop f) h = go (shown_edge f.clock f.delay t) h
     where

@@ -19,10 +19,10 @@ use Rattle.batch_meaning.specs.Lawful.{IsLawful}
 use Rattle.plan_machine.specs.Shards.{Shard}
 use Rattle.plan_machine.specs.Sound.{IsFresh}
 use Rattle.plan_machine.specs.inner.Settle.{IsStanding, StandsAs, Advances, IsVisited, IsOpen, AreVisited, IsCoveredTo, SettlesQuery}
-use Rattle.plan_machine.specs.Settle.{IsSettled, AreAllSettled, journals_of, entries_in, charge_of}
+use Rattle.plan_machine.specs.Settle.{AreAllSettled, journals_of, entries_in, charge_of}
 use Rattle.plan_machine.specs.Settling.{fills_of}
 use Rattle.plan_machine.proofs.Underway.{contains-none}
-use Rattle.plan_machine.proofs.Settle.{begins-query, stays, ends-query, open-kept, visited-kept, settled-kept, opens-kept, all-kept}
+use Rattle.plan_machine.proofs.Settle.{all-push, begins-query, stays, ends-query, open-kept, visited-kept, settled-kept, opens-kept, all-kept}
 use Rattle.plan_machine.proofs.Settling.{fills-has, fills-each, needed-by}
 use Rattle.circuit_meaning.specs.declared.Run.{Run}
 use Rattle.reply_lines.specs.declared.reply.Outcome.{Outcome}
@@ -106,12 +106,6 @@ fed-push c start now [] (g ∷ fs) q f h k = absurd h
 fed-push c start now (x ∷ done) [] q f h k = absurd h
 fed-push c start now (x ∷ done) (g ∷ fs) q f h k = (h.0, fed-push c start now done fs q f h.1 k)
 
-settled-push : (c : Circuit) (start now : List Entry) (done : List Query) (rs : List Bool) (q : Query) (r : Bool) → AreAllSettled c start now done rs → IsSettled c q start now r → AreAllSettled c start now (done ++ q ∷ []) (rs ++ r ∷ [])
-settled-push c start now [] [] q r h k = (k, tt)
-settled-push c start now [] (f ∷ fs) q r h k = absurd h
-settled-push c start now (x ∷ done) [] q r h k = absurd h
-settled-push c start now (x ∷ done) (f ∷ fs) q r h k = (h.0, settled-push c start now done fs q r h.1 k)
-
 outcomes-push : (c : Circuit) (done : List Query) (rs : List (Outcome (List Run))) (q : Query) (r : Outcome (List Run)) → AreOutcomes c done rs → IsOutcomeFor c q r → AreOutcomes c (done ++ q ∷ []) (rs ++ r ∷ [])
 outcomes-push c [] [] q r h k = (k, tt)
 outcomes-push c [] (f ∷ fs) q r h k = absurd h
@@ -137,7 +131,7 @@ module _ (b : Batch) (start : List Entry) (first now : List Shard) (q : Query) w
     added = h.added ++ k.added;
     journals = added-more (journals_of first) h.added (journals_of now) k.added (journals_of new) h.journals k.journals;
     settled = subst (AreAllSettled b.circuit start (entries_in new) (done ++ q ∷ [])) (sym (map-append is_budget rs (r ∷ [])))
-        (settled-push b.circuit start (entries_in new) done (refused_of rs) q (is_budget r) (all-kept b opening start q k.added k.own (entries_in now) (entries_in new) k.journals.together done (refused_of rs) (before-apart done q left apart) h.settled) k.settled);
+        (all-push b.circuit start (entries_in new) done (refused_of rs) q (is_budget r) (all-kept b opening start q k.added k.own (entries_in now) (entries_in new) k.journals.together done (refused_of rs) (before-apart done q left apart) h.settled) k.settled);
     answers = outcomes-push b.circuit done rs q r h.answers outcome;
     all = all-fed-kept b.circuit start (entries_in now) k.added (entries_in new) k.journals.together q k.own left fs (after-apart done q left apart) h.all.1;
   }

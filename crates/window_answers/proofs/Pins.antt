@@ -1,9 +1,8 @@
 -- The pins of a filled point, one after another.
-use Rattle.std.proofs.Common.{◌≡◌, ℕ, ◌<◌, ◌≤◌, List, get_or, Contains, Option, Some, None, refl, sym, subst}
+use Rattle.std.proofs.Common.{◌≡◌, ℕ, ◌≤◌, List, get_or, Contains, Option, Some, None, refl, sym, subst}
 use Rattle.valid_intervals.specs.declared.Point.{Point}
 use Rattle.circuit_meaning.specs.Circuit.{Circuit}
 use Rattle.circuit_meaning.specs.Need.{IsEvaluable, children}
-use Rattle.circuit_meaning.specs.Looks.{somes}
 use Rattle.circuit_meaning.proofs.Looking.{children-somes}
 use Rattle.journal_meaning.specs.declared.Entry.{Entry}
 use Rattle.batch_meaning.specs.declared.Query.{Query}
@@ -14,10 +13,10 @@ use Rattle.batch_meaning.specs.Pieces.{IsStart}
 use Rattle.plan_machine.specs.inner.Settle.{IsAskedFor}
 use Rattle.plan_machine.specs.Settle.{child_start, root_start, charge_of}
 use Rattle.plan_machine.proofs.Steps.{wanted-time}
-use Rattle.plan_machine.proofs.Settle.{child-start, child-needed, child-asked, root-asked}
+use Rattle.plan_machine.proofs.Settle.{evaluable-signal, child-start, child-needed, child-asked, root-asked}
 use Rattle.pin_walks.specs.PinWalks.{IsPoint, looked_at}
 use Rattle.asked_cells.specs.inner.Sources.{IsSourceCovered}
-use Rattle.asked_cells.proofs.Pins.{somes-has, needed-evaluable, evaluable-signal}
+use Rattle.asked_cells.proofs.Pins.{somes-has, needed-evaluable}
 
 -- a pin that is looked at reads a child
 pub source-child : (c : Circuit) (p x : Point) (n : ℕ) → get_or (looked_at c p) n None ≡ Some x → Contains (children c p.signal p.time) x

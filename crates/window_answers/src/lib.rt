@@ -38,8 +38,8 @@
 //!
 //! ```
 //! let strands = strands_of::<B>(alloc, queries)?;
-//! let shards = crew.run(alloc, design, shards, strands)?;
-//! let Settled { outcomes, shards } = settle(alloc, design, shards, queries, false, None)?;
+//! let ran = crew.run(alloc, design, shards, strands)?;
+//! let Settled { outcomes, shards } = settle(alloc, design, ran.shards.into_vec(), queries, ran.heard, ran.said)?;
 //! ```
 #![tactic(auto)]
 

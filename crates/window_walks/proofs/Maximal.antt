@@ -2,8 +2,8 @@
 use Rattle.std.proofs.Common.{◌≡◌, ℕ, suc, ◌-◌, Bool, true, false, cond, List, [], ◌∷◌, ◌++◌, length, Some, None, refl, sym, ap, ◌∙◌, arith}
 use Rattle.std.specs.List.{slice_get}
 use Rattle.gate_values.specs.declared.Value.{Value}
-use Rattle.gate_values.specs.declared.Value.TheVariants.{Zero, One, X, Z}
 use Rattle.gate_values.specs.Gates.{same_value}
+use Rattle.gate_values.proofs.Same.{same-sym, same_is}
 use Rattle.valid_intervals.specs.declared.Cell.{Cell}
 use Rattle.circuit_meaning.specs.declared.Run.{Run}
 use Rattle.circuit_meaning.specs.Laws as laws
@@ -50,20 +50,6 @@ runs_of-push (first ∷ points) point = changes_from-push first first.value poin
 pub runs_go_on : (runs points new : List Run) (point : Run) (b : Bool) → runs ≡ maximal_runs points → b ≡ ends_in runs point.value → cond b runs (runs ++ point ∷ []) ≡ new → new ≡ maximal_runs (points ++ point ∷ [])
 runs_go_on runs points new point b are ends is =
     sym is ∙ ap (λ (x : Bool). cond x runs (runs ++ point ∷ [])) ends ∙ ap (λ (l : List Run). with_point l point) are ∙ sym (runs_of-push points point)
-
-same-sym : (v w : Value) → same_value v w ≡ same_value w v
-same-sym Zero Zero = refl
-same-sym One One = refl
-same-sym X X = refl
-same-sym Z Z = refl
-same-sym v w = refl
-
-same_is : (v w : Value) → same_value v w ≡ true → v ≡ w
-same_is Zero Zero h = refl
-same_is One One h = refl
-same_is X X h = refl
-same_is Z Z h = refl
-same_is v w h = absurd cc
 
 -- behind a run of this value
 changes_from-points : (value : Value) (t : ℕ) (cells : List Cell) → changes_from value (first_points t cells) ≡ laws.runs_along (Some value) t cells

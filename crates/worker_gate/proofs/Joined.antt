@@ -1,5 +1,5 @@
 -- What is made of chunks, one after another.
-use Rattle.std.proofs.Common.{◌≡◌, ℕ, zero, suc, ◌+◌, ◌*◌, ◌/◌, ◌%◌, ◌<◌, ◌≤◌, min, ⊎_elim, List, [], ◌∷◌, ◌++◌, length, take, drop, get_or, Result, Ok, Err, IfOk, refl, sym, ap, subst, ◌∙◌, arith, append-nil}
+use Rattle.std.proofs.Common.{◌≡◌, ℕ, zero, suc, ◌+◌, ◌*◌, ◌/◌, ◌%◌, ◌<◌, ◌≤◌, min, ⊎_elim, List, [], ◌∷◌, ◌++◌, length, take, drop, get_or, Result, Ok, refl, sym, ap, subst, ◌∙◌, arith, append-nil}
 use Rattle.std.specs.Prelude.{flat_map}
 use Rattle.std.specs.Fork.{slice_chunk}
 use Rattle.std.proofs.Math.Nat.{suc-mul, zero-mul, add-mul, one-mul}
@@ -16,11 +16,6 @@ use Rattle.asked_cells.specs.Memos.{entries_of}
 use Rattle.asked_cells.proofs.Counted.{none-counted, both-counted}
 use Rattle.asked_cells.proofs.Entries.{entries-append}
 use Rattle.worker_gate.specs.Said.{AreJoined}
-
--- what follows from the value of a result
-pub ok-then : {T E : Type 0} (P Q : T → Type 0) (r : Result T E) → IfOk r P → ((x : T) → P x → Q x) → IfOk r Q
-ok-then P Q (Ok x) p f = f x p
-ok-then P Q (Err e) p f = tt
 
 -- so many chunks reach the end
 pub chunks-cover : (count len size : ℕ) → 0 < size → count ≡ len / size + min 1 (len % size) → len ≤ count * size

@@ -6,14 +6,16 @@ from __future__ import annotations
 
 import re
 from collections.abc import Collection, Iterable, Sequence
+from difflib import get_close_matches
 from itertools import groupby
 
 from ..errors import UsageError
 from ..values import Wave
 
 _BUS = re.compile(r"(.+)\[([0-9]{1,6}):([0-9]{1,6})\]")
-_PLACE = re.compile(r"[0-9]{1,6}\]")
+_PLACE, _LAST_PLACE = re.compile(r"[0-9]{1,6}\]"), re.compile(r"(?<=.)\[[0-9]{1,6}\]$")
 MOST_BITS = 4096
+_NEAREST = 3
 _LITERAL = re.compile(r"[0-9]*'([bdh])([0-9a-f]+)")
 _BASES = {"b": 2, "d": 10, "h": 16}
 
@@ -55,8 +57,7 @@ def full_name(name: str, names: Collection[str]) -> str:
     UsageError where bits between the highest and the lowest are missing, or there are more than 4,096."""
     if name in names or name.endswith("]") and bits_of(name):
         return name
-    stem = f"{name}["
-    places = {int(own[len(stem):-1]) for own in names if own.startswith(stem) and _PLACE.fullmatch(own, len(stem))}
+    places = _places(name, names)
     if not places:
         return name
     full = f"{name}[{max(places)}:{min(places)}]"
@@ -64,6 +65,32 @@ def full_name(name: str, names: Collection[str]) -> str:
     if missing:
         raise UsageError(f"the bus {full} has no bit {missing[0]}: name its bits, or a range that has all")
     return full
+
+
+def nearest(name: str, names: Collection[str], known: Collection[str] = ()) -> tuple[str, ...]:
+    """At most three of the names that are like the name, the most alike first. Where the name is that of no bit, a bus stands in place of
+    its bits; these are of `known`, all names, or else of the names."""
+    if name.endswith("]"):
+        return tuple(get_close_matches(name, names, _NEAREST))
+    stems = dict.fromkeys(_LAST_PLACE.sub("", own) for own in names)
+    every = frozenset(known or names)
+    return tuple(_known_by(stem, every) for stem in get_close_matches(name, stems, _NEAREST))
+
+
+def _known_by(stem: str, names: Collection[str]) -> str:
+    """The signal or the bus of this stem; of one bit, or of a bus that lacks some, the lowest bit that is there."""
+    try:
+        full = full_name(stem, names)
+    except UsageError:
+        return f"{stem}[{min(_places(stem, names))}]"
+    bits = bits_of(full)
+    return bits[0] if len(bits) == 1 else full
+
+
+def _places(stem: str, names: Iterable[str]) -> set[int]:
+    """The places of the bits `stem[PLACE]` that are names."""
+    begin = f"{stem}["
+    return {int(own[len(begin):-1]) for own in names if own.startswith(begin) and _PLACE.fullmatch(own, len(begin))}
 
 
 def signals_of(name: str, names: Collection[str]) -> tuple[str, ...]:

@@ -3,6 +3,7 @@ a kind of gate does stands in `kinds`."""
 from __future__ import annotations
 
 import enum
+import sys
 from bisect import bisect_right
 from dataclasses import field
 
@@ -50,10 +51,15 @@ class Design(Circuit):
     """A circuit with what its rules say of points."""
 
     _changes: dict[str, list[tuple[int, str]]] = field(default_factory=dict, init=False, repr=False, compare=False)
+    _delays: dict[str, tuple[int, ...]] = field(default_factory=dict, init=False, repr=False, compare=False)
+    _evaluated: dict[str, tuple[int, Role]] = field(default_factory=dict, init=False, repr=False, compare=False)
 
     def delays(self, gate: Gate) -> tuple[int, ...]:
         """The delay of each pin of a gate or flip-flop."""
-        return tuple(self.timing.delay(gate, place) for place in range(len(gate.pins)))
+        found = self._delays.get(gate.name)
+        if found is None:
+            found = self._delays[gate.name] = tuple([self.timing.delay(gate, place) for place in range(len(gate.pins))])
+        return found
 
     def clock_of(self, flop: Gate) -> Clock | None:
         """The clock of a flip-flop, or None where it has none."""
@@ -64,23 +70,33 @@ class Design(Circuit):
         clock = self.clock_of(flop)
         if clock is None:
             return None
-        since = time - self.timing.delay(flop) - clock.first
+        since = time - self.delays(flop)[0] - clock.first
         return None if since < 0 else clock.first + since // clock.period * clock.period
+
+    def evaluated(self, name: str) -> tuple[int, Role]:
+        """From which time on the points of a signal are evaluated, never those of an input; and what their cells are."""
+        found = self._evaluated.get(name)
+        if found is None:
+            gate = self.netlist.gates.get(name)
+            if gate is None:
+                found = sys.maxsize, Role.INPUT
+            elif gate.kind is Kind.DFF:
+                clock = self.clock_of(gate)
+                found = sys.maxsize if clock is None else clock.first + self.delays(gate)[0], Role.FLOP
+            else:
+                found = min(self.delays(gate)), Role.GATE
+            self._evaluated[name] = found
+        return found
 
     def base(self, name: str, time: int) -> tuple[Role, Cell] | None:
         """The base answer of a signal at a time, or None where the point is evaluable."""
-        end = self.stimulus.horizon + 1
-        gate = self.netlist.gates.get(name)
-        if gate is None:
-            return Role.INPUT, self._input_cell(name, time)
-        if gate.kind is not Kind.DFF:
-            least = min(self.delays(gate))
-            return (Role.EARLY, Cell(0, min(least, end), "x")) if time < least else None
-        if self.shown_edge(gate, time) is not None:
+        first, role = self.evaluated(name)
+        if time >= first:
             return None
-        clock = self.clock_of(gate)
-        shown = end if clock is None else min(clock.first + self.timing.delay(gate), end)
-        return Role.INITIAL, Cell(0, shown, self.timing.initial(name))
+        if role is Role.INPUT:
+            return role, self._input_cell(name, time)
+        end = min(first, self.stimulus.horizon + 1)
+        return (Role.INITIAL, Cell(0, end, self.timing.initial(name))) if role is Role.FLOP else (Role.EARLY, Cell(0, end, "x"))
 
     def changes(self, name: str) -> list[tuple[int, str]]:
         """The (time, value) of the settings of an input: those of the stimulus that change its value."""

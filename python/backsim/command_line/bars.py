@@ -20,7 +20,7 @@ _FORMAT = "{l_bar}{bar}| {n_fmt}/{total_fmt}{unit} [{elapsed}{postfix}]"
 
 class Bar:
     """A context manager. `add` counts what is done; `evaluations`, where it is given, is asked from time to time and shown. `left` says the
-    time left in words; where it is not given, all is taken to go on as fast as so far. Where standard error is no terminal nothing is
+    time left in words, or what else tells how far it is; where it is not given, all is taken to go on as fast as so far. Where standard error is no terminal nothing is
     shown, or with `has_lines` a line every ten seconds; where tqdm is not there, a line says so."""
 
     def __init__(self, total: int, what: str, evaluations: Callable[[], int] | None = None, *, left: Callable[[], str] | None = None,

@@ -7,7 +7,7 @@ import signal
 import sys
 import threading
 from collections.abc import Iterator
-from contextlib import contextmanager, nullcontext
+from contextlib import contextmanager, nullcontext, suppress
 from pathlib import Path
 from typing import Any
 
@@ -89,6 +89,7 @@ class _Prompt:
                         answers = self._answered(answers, text)
                     except KeyboardInterrupt:
                         print()  # Ctrl-C between an answer and the next line
+                        answers = self._begun_anew()
         except EOFError:
             pass
         finally:
@@ -107,10 +108,15 @@ class _Prompt:
             print(error)
         except KeyboardInterrupt:
             print("given up; the session begins anew")
-            self._session.close()
-            self._session = self._begun()
-            return self._answers()
+            return self._begun_anew()
         return answers
+
+    def _begun_anew(self) -> Answers:
+        """What answers by another session, after Ctrl-C: a terminal sends that to the program too, which may have ended by it."""
+        with suppress(SessionError):
+            self._session.close()
+        self._session = self._begun()
+        return self._answers()
 
     def names(self) -> Iterator[str]:
         """The names of the netlist."""

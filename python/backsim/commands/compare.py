@@ -24,7 +24,7 @@ EXAMPLE = """  backsim-tools compare chip.bench chip.timing chip.vcd chip_test.d
 
 Values are compared directly before the clocks' edges and the changes of inputs, where gates have settled by then. A line has the time,
 the net or bus, both values, the place in the source, whether what it is made of differs too, and the question. Status 1 where any differs; what is x in the dump and has a
-value here is told apart."""
+value here is told apart, and what is x here since a window does not know a flip-flop. A bus has the order of its bits in the dump."""
 _SHOWN = 10
 
 
@@ -54,10 +54,11 @@ def run(arguments: argparse.Namespace) -> int:
     notes = warning_of(dump)
     longest = longest_path(netlist, timing, arguments.netlist)
     first = 0
+    lost: list[str] = []
     if dump.start:
         begin = begin_of(timing, dump.start, longest)
         window = window_of(netlist, timing, dump, begin)
-        timing, first = window.timing, begin.time - dump.start
+        timing, first, lost = window.timing, begin.time - dump.start, window.lost
         notes += window.notes
     races = [f"{name} at {time}, of {clock}" for name, (time, clock) in at_edges(netlist, timing, stimulus).items()]
     if races:
@@ -82,7 +83,7 @@ def run(arguments: argparse.Namespace) -> int:
     if not bits:
         raise FormatError(arguments.vcd, None, f"no signal of the netlist is dumped in the scope {arguments.scope}")
     with Session(arguments.netlist, timing, stimulus, program=arguments.program) as session:
-        found = compare(session, bits, events, times)
+        found = compare(session, bits, events, times, lost, dump.vcd.ascending(dump.scope))
     for note in notes:
         say(note)
     _tell(found, netlist, dump.start, arguments)
@@ -112,6 +113,8 @@ def _tell(found: Comparison, netlist: Netlist, start: int, arguments: argparse.N
         print(f"{mismatch.time}{there}: {mismatch.name} is {mismatch.here} here, and {mismatch.there} in the dump{source}{begins}; why {mismatch.bit} {mismatch.time}")
     if found.unknown:
         print(f"x in the dump, and not here: {_listed(found.unknown)}")
+    if found.unclear:
+        print(f"x here, which may come of the flip-flops that are not dumped: {_listed(found.unclear)}")
     if found.dear:
         print(f"not wholly compared, since it took more than the greatest budget: {', '.join(found.dear[:_SHOWN])}{' ...' * (len(found.dear) > _SHOWN)}")
     print(f"{found.signals} signals compared at {found.times} times; nets and buses that differ: {len(found.differing)}")

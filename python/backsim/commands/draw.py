@@ -35,12 +35,14 @@ def add_arguments(parser: argparse.ArgumentParser) -> None:
                         help="the scope of the dump, as top.dut; that of the first variable where it is left out")
     parser.add_argument("--from", dest="start", type=moment, metavar="T", help="the first time, in units, or such as 15ns where "
                         "the files state the unit")
-    parser.add_argument("--to", dest="stop", type=moment, metavar="T", help="the time before which the diagram ends")
-    parser.add_argument("--budget", type=int, metavar="N", help="how many points a session may evaluate for each wave")
-    parser.add_argument("--radix", choices=RADIXES, default="hex", help="how values of buses are written, hex where it is left out")
+    parser.add_argument("--to", dest="stop", type=moment, metavar="T", help="the time before which the diagram ends, in units, or such as 15ns")
+    parser.add_argument("--budget", type=int, metavar="N", help="how many points a session may evaluate for each wave, 50,000 where "
+                        "it is left out, 500,000 at most")
+    parser.add_argument("--radix", choices=RADIXES, default="hex", help="how values of buses are written, hex where it is left out; signed "
+                        "is decimal in two's complement")
     parser.add_argument("--bits", action="store_true", help="draw the bits of a bus in rows of their own where no bus is named")
     parser.add_argument("--mark", type=moment, action="append", default=[], metavar="T", help="a vertical line at this time; may be repeated")
-    parser.add_argument("--title", default="", metavar="TEXT")
+    parser.add_argument("--title", default="", metavar="TEXT", help="what stands above the diagram; nothing where it is left out")
     parser.add_argument("--output", "-o", type=Path, required=True, metavar="FILE", help="the picture, .svg or .png")
 
 
@@ -62,16 +64,17 @@ def run(arguments: argparse.Namespace) -> int:
     if not arguments.bits:
         rows = with_buses(rows)
     picture = waves_picture(rows, form, start=start, stop=stop, radix=arguments.radix, marks=[mark for mark in marks if mark is not None],
-                            title=arguments.title)
+                            title=arguments.title, unit=str(unit) if unit else "")
     write_picture(arguments.output, picture)
     return 0
 
 
 def _unit_of(arguments: argparse.Namespace, names: list[str]) -> Unit | None:
-    """The unit of what is drawn, where a time is said in seconds: a tick of the dump, or what the files of a session state."""
-    if not any(isinstance(time, str) for time in (arguments.start, arguments.stop, *arguments.mark)):
-        return None
+    """The unit of what is drawn: a tick of the dump, or what the files of a session state; None where it is not known. A pipe, which
+    can be read once, is looked at only where a time is said in seconds."""
     if arguments.vcd:
+        if not arguments.vcd.is_file() and not any(isinstance(time, str) for time in (arguments.start, arguments.stop, *arguments.mark)):
+            return None
         vcd = read_vcd(arguments.vcd, lambda header: Selection(set(), 0, 0))
         return Unit(vcd.ticks, vcd.unit)
     return unit_of_session(names[1], names[2]) if not arguments.replies and len(names) > 2 else None

@@ -38,6 +38,9 @@ confirmed by a stuck line of the program. Status 1: a question was answered by i
 SIGTERM came; what was known is written, and marked as partial."""
 _MOST_SAID = 20
 _MOST_DROP = 1000
+# ways that make no table, or one of replies alone, and the options that would do nothing beside each
+_RESULTS = ("prove_left", "csv", "dictionary", "shown", "left")
+_WITHOUT = {"write_list": ("write", "read", *_RESULTS), "write": ("read", *_RESULTS), "read": ("prove_left", "dictionary")}
 
 
 def add_arguments(parser: argparse.ArgumentParser) -> None:
@@ -67,6 +70,7 @@ def add_arguments(parser: argparse.ArgumentParser) -> None:
 
 @stoppable()
 def run(arguments: argparse.Namespace) -> int:
+    _check_options(arguments)
     looks = read_looks(arguments)
     classes = classes_of(arguments, looks.lines, arguments.transition)
     if arguments.write_list:
@@ -98,6 +102,14 @@ def run(arguments: argparse.Namespace) -> int:
     if search.unconfirmed:
         say(f"{search.unconfirmed} that are shown are not confirmed by {plan.budget} evaluations each, so simulation alone says it (--budget)")
     return INTERRUPTED if is_partial else 1 if search.unconfirmed else status
+
+
+def _check_options(arguments: argparse.Namespace) -> None:
+    """WordsError where an option would do nothing beside another."""
+    for chosen, without in _WITHOUT.items():
+        for other in without:
+            if getattr(arguments, chosen) and getattr(arguments, other):
+                raise WordsError(f"--{chosen} and --{other} do not go together".replace("_", "-"))
 
 
 class _Search:

@@ -10,7 +10,8 @@ from ..convert.annotate_cells import annotate_cells
 from ..convert.cells import Asynchronous
 from ..convert.design import design_of
 from ..convert.output import add_output, say, whole_text
-from ..convert.sdf import Corner, read_sdf
+from ..convert.sdf import read_sdf
+from ..convert.sdf_entries import Corner
 from ..convert.yosys import read_module
 from ..errors import FormatError
 from ..formats.netlist import read_netlist

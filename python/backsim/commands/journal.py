@@ -26,6 +26,7 @@ def add_arguments(parser: argparse.ArgumentParser) -> None:
 def run(arguments: argparse.Namespace) -> int:
     if arguments.profile:
         return profile_text.run(Path(arguments.journal), arguments)
+    profile_text.check_unused(arguments)
     entries, sections = judge(read_events(arguments.journal), arguments.journal)
     print(f"legal: {entries} entries in {sections} sections")
     return 0

@@ -77,7 +77,8 @@ def run(arguments: argparse.Namespace) -> int:
 
 
 def _search(arguments: argparse.Namespace, circuit: Circuit, search: Search) -> None:
-    with Bar(search.wanted, "shown", has_lines=True) as bar:
+    # how many are shown says nothing of how long it takes
+    with Bar(search.wanted, "shown", left=lambda: f"{search.tried} patterns tried", has_lines=True) as bar:
         before = 0
 
         def told() -> None:

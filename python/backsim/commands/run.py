@@ -9,7 +9,7 @@ from contextlib import AbstractContextManager, closing, nullcontext
 
 from ..command_line.arguments import add_files, add_memo, add_program, count_of, opened
 from ..command_line.bars import Bar
-from ..errors import type_of_path
+from ..errors import WordsError, type_of_path
 from ..journal.evaluations import Tail
 from ..scripts.parts import TextLine, check_divisible, read_lines, told_of_budgets
 from ..scripts.running import Counts, Files, Run
@@ -22,6 +22,7 @@ EXAMPLE = """\
   backsim-tools run c17.bench c17.timing c17.stim c17.script --jobs 4 --shards 64 > replies
   backsim-tools run chip.bench chip.timing chip.stim questions.script --jobs 16 --plan slurm"""
 _MOST_JOBS = 1024
+_PARTS = "parts"
 _MOST_READ = 4_000_000
 
 
@@ -35,11 +36,15 @@ def add_arguments(parser: argparse.ArgumentParser) -> None:
     # the functions of `plans`
     parser.add_argument("--plan", choices=("parallel", "slurm"),
                         help="run nothing, and print the commands that do it by GNU parallel or Slurm")
-    parser.add_argument("--parts", metavar="FOLDER", default="parts", help="the folder that a plan makes for its parts (parts)")
+    parser.add_argument("--parts", metavar="FOLDER", help="the folder that a plan makes for its parts, `parts` where it is left out")
     add_program(parser)
 
 
 def run(arguments: argparse.Namespace) -> int:
+    if arguments.parts is not None and arguments.plan is None:
+        raise WordsError("--parts is for --plan")
+    if arguments.journal and arguments.plan:
+        raise WordsError("--journal and --plan do not go together")
     is_divided = arguments.jobs > 1 or arguments.plan is not None
     options = Options(arguments.workers or (1 if is_divided else None), arguments.shards, arguments.cells)
     with opened(arguments.script) as stream:
@@ -49,7 +54,7 @@ def run(arguments: argparse.Namespace) -> int:
     if arguments.plan:
         from ..scripts import plans
         names = [arguments.netlist, arguments.timing, arguments.stimulus]
-        plan = plans.Plan(find_program(arguments.program), names, options.words(), arguments.script, arguments.jobs, arguments.parts)
+        plan = plans.Plan(find_program(arguments.program), names, options.words(), arguments.script, arguments.jobs, arguments.parts or _PARTS)
         print(getattr(plans, arguments.plan)(plan))
         return 0
     with _folder(arguments.journal) as folder:

@@ -45,7 +45,8 @@ def add_arguments(parser: argparse.ArgumentParser) -> None:
                         help="netlist, timing file and stimulus, and the signals, patterns and buses to show; or a saved view alone")
     parser.add_argument("--from", dest="start", type=moment, metavar="T", help="the first time in view, in units, or such as 15ns where "
                         "the files state the unit; 0 where it is left out")
-    parser.add_argument("--to", dest="stop", type=moment, metavar="T", help="the time before which the view ends")
+    parser.add_argument("--to", dest="stop", type=moment, metavar="T", help="the time before which the view ends; where it is left out 20 periods "
+                        "of the fastest clock after T, or 200 units")
     parser.add_argument("--port", type=count_of(0, 65_535), default=0, metavar="N", help="the port, one of the system's choice if left out")
     parser.add_argument("--no-browser", action="store_true", help="print the address alone")
     add_program(parser)
@@ -109,9 +110,11 @@ def _document(arguments: argparse.Namespace, index: Index, horizon: int) -> Docu
 
 
 def _named(index: Index, names: list[str]) -> Iterator[str]:
-    """The names, with the signals and buses of a pattern in its place. UsageError where there is no such signal."""
+    """The names, with the signals and buses of a pattern in its place, and the range of a bus that is named without it. UsageError where
+    there is no such signal."""
     for name in names:
         if not set(name) & set("*?"):
+            name = index.full(name)
             index.bits(name)
             yield name
             continue
@@ -139,8 +142,11 @@ def _tell(pages: Pages, is_quiet: bool) -> None:
 
 @contextmanager
 def _ended_by_signals() -> Iterator[None]:
-    """Has the signals by which terminals and services end a command end it as Ctrl-C does, with all that it has begun."""
+    """Has the signals by which terminals and services end a command end it as Ctrl-C does, with all that it has begun; those that follow are
+    passed over meanwhile."""
     def end(number: int, frame: FrameType | None) -> None:
+        for one in before:
+            signal.signal(one, signal.SIG_IGN)
         raise KeyboardInterrupt
 
     before = {number: signal.signal(number, end) for number in (signal.SIGTERM, signal.SIGHUP)}

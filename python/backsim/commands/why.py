@@ -9,6 +9,7 @@ from pathlib import Path
 
 from ..circuit.buses import full_name, matching, signals_of
 from ..circuit.rules import read_design
+from ..collecting import without_collection
 from ..command_line.arguments import count_of, moment, unit_of_session
 from ..command_line.no_value import no_value_of
 from ..errors import FormatError, UsageError, WordsError
@@ -68,7 +69,11 @@ def add_arguments(parser: argparse.ArgumentParser) -> None:
 
 def run(arguments: argparse.Namespace) -> int:
     form = form_of(arguments.output, FORMS) if arguments.output else None
-    explanation = _explanation_of(arguments)
+    with without_collection():
+        return _tell(_explanation_of(arguments), form, arguments)
+
+
+def _tell(explanation: Explanation, form: str | None, arguments: argparse.Namespace) -> int:
     if form:
         write_picture(arguments.output, _picture(explanation, form, arguments))
     if arguments.html:

@@ -14,7 +14,8 @@ from ..formats.netlist import Gate, Netlist
 from ..formats.timing import Timing
 from ..limits import MOST_TIME
 from ..records import dataclass
-from .sdf import Delays, Path, Wire
+from .sdf import Delays
+from .sdf_entries import ANY, Entry, Path, delay_of
 
 
 @dataclass(slots=True)
@@ -53,6 +54,7 @@ class _Annotator:
     def __init__(self, netlist: Netlist, delays: Delays, unit: Fraction, path: str) -> None:
         self.netlist, self.delays, self.unit, self.path = netlist, delays, unit, path
         self.found: dict[str, dict[int, int]] = {}
+        self.taken: set[Entry] = set()
         self.raised = 0
         self.lost: Counter[str] = Counter()
         self.lost_lines: dict[str, int] = {}
@@ -60,28 +62,46 @@ class _Annotator:
     def annotated(self, base: Timing) -> Annotated:
         by_instance: dict[str, list[Path]] = {}
         for path in self.delays.paths:
-            by_instance.setdefault(path.instance, []).append(path)
-        for paths in by_instance.values():
-            self.instance(paths)
+            by_instance.setdefault(path.place.instance, []).append(path)
+        for instance, paths in by_instance.items():
+            self.instance(instance, paths)
         for wire in self.delays.wires:
             self.lose(f"{wire.word}, which needs the ports of cells (--json)", wire)
         return Annotated(with_delays(self.netlist, base, self.found), len(self.found), list(self._notes()))
 
-    def instance(self, paths: Sequence[Path]) -> None:
+    def instance(self, instance: str, paths: Sequence[Path]) -> None:
         """The paths of one instance."""
-        gate = self.netlist.gates.get(paths[0].instance)
+        gate = self.netlist.gates.get(instance)
         if gate is None:
+            where = "every instance of a type, which needs the types of cells (--json)" if instance == ANY else "an instance that is no gate of the netlist"
             for path in paths:
-                self.lose("IOPATH of an instance that is no gate of the netlist", path)
+                self.lose(f"{path.word} of {where}", path)
             return
-        for path in self._of_clock(paths, gate):
+        paths = self._of_clock(paths, gate)
+        by_place: dict[int, dict[tuple[str, str], None]] = {}
+        for path in paths:
             places = self.places(gate, path, paths)
             if not places:
-                self.lose("IOPATH whose ports are no pins of one gate", path)
-            own = self.found.setdefault(gate.name, {})
+                self.lose(f"{path.word} whose ports are no pins of one gate", path)
             for place in places:
-                delay = self.units(path)
-                own[place] = self.delays.corner.of([own[place], delay]) if place in own else delay
+                by_place.setdefault(place, {})[path.source, path.target] = None
+        for place, arcs in by_place.items():
+            self.pin(gate, place, list(arcs), paths)
+        for path in paths:
+            if path.place.is_increment and path not in self.taken and self.places(gate, path, paths):
+                self.lose("INCREMENT of a delay that is not stated before it", path)
+
+    def pin(self, gate: Gate, place: int, arcs: Sequence[tuple[str, str]], paths: Sequence[Path]) -> None:
+        """The delay of a pin at which paths of these ports begin; a DEVICE counts for each of them."""
+        named = [arc for arc in arcs if arc[0] != ANY] or arcs
+        found = []
+        for source, target in named:
+            own = [path for path in paths if path.source in (source, ANY) and path.target in (target, ANY)]
+            delay = delay_of(own, self.delays.corner, self.taken)
+            if delay is not None:
+                found.append(self.units(delay, own[0].place.line))
+        if found:
+            self.found.setdefault(gate.name, {})[place] = self.delays.corner.of(found)
 
     def _of_clock(self, paths: Sequence[Path], gate: Gate) -> Sequence[Path]:
         """Of a flip-flop the paths that state an edge, where there are such: the others are those of a reset."""
@@ -93,28 +113,29 @@ class _Annotator:
         return [path for path in paths if path.has_edge]
 
     def places(self, gate: Gate, path: Path, paths: Sequence[Path]) -> list[int]:
-        """The pins that a path begins at: by the net at the port, or by the port's place among those of the cell."""
+        """The pins that a path begins at: by the net at the port, or, where no port has the name of such a net, by the port's place among those
+        of the cell."""
         if gate.kind is Kind.DFF:
             return [0]
-        if path.source == "*":
+        if path.source == ANY:
             return list(range(len(gate.pins)))
         places = [place for place, pin in enumerate(gate.pins) if pin == path.source]
-        if not places:
-            order = sorted({own.source for own in paths if own.source != "*"}, key=_natural)
+        if not places and not any(own.source in gate.pins for own in paths):
+            order = sorted({own.source for own in paths if own.source != ANY}, key=_natural)
             places = [order.index(path.source)] if len(order) == len(gate.pins) else []
         return places
 
-    def units(self, path: Path) -> int:
-        delay = ceil(path.delay / self.unit)
-        if delay > MOST_TIME:
-            raise FormatError(self.path, path.line, f"the delay is {delay} units, above {MOST_TIME}: take a greater --unit")
-        if path.delay <= 0:
+    def units(self, delay: Fraction, line: int) -> int:
+        count = ceil(delay / self.unit)
+        if count > MOST_TIME:
+            raise FormatError(self.path, line, f"the delay is {count} units, above {MOST_TIME}: take a greater --unit")
+        if delay <= 0:
             self.raised += 1
-        return max(1, delay)
+        return max(1, count)
 
-    def lose(self, what: str, path: Path | Wire) -> None:
+    def lose(self, what: str, entry: Entry) -> None:
         self.lost[what] += 1
-        self.lost_lines.setdefault(what, path.line)
+        self.lost_lines.setdefault(what, entry.place.line)
 
     def _notes(self) -> Iterator[str]:
         """What is to be told."""

@@ -9,7 +9,6 @@ from __future__ import annotations
 
 from collections import Counter
 from collections.abc import Iterator
-from dataclasses import field
 from fractions import Fraction
 from math import ceil
 
@@ -18,21 +17,15 @@ from ..errors import FormatError
 from ..formats.netlist import Netlist
 from ..formats.timing import Clock, Timing
 from ..limits import MOST_TIME
-from ..records import dataclass
 from .annotate import Annotated, with_delays
 from .cells import Leaf
 from .design import Design, Instance
-from .sdf import Delays, Path, Wire
+from .sdf import Delays
+from .sdf_entries import ANY, Entry, Path, Wire, delay_of
+from .yosys import type_of
 
 _SHOWN = 3
-
-
-@dataclass(slots=True)
-class _Use:
-    """The arcs of an instance by (source, target), and which of them were met."""
-
-    arcs: dict[tuple[str, str], list[Path]] = field(default_factory=dict)
-    met: set[tuple[str, str]] = field(default_factory=set)
+_IDLE = "INCREMENT of a delay that is not stated before it"
 
 
 def annotate_cells(design: Design, netlist: Netlist, base: Timing, delays: Delays, unit: Fraction, path: str) -> Annotated:
@@ -48,21 +41,29 @@ class _Annotator:
         self.design, self.netlist, self.base, self.delays, self.unit, self.path = design, netlist, base, delays, unit, path
         self.found: dict[str, dict[int, int]] = {}
         self.shifts: dict[str, int] = {}
-        self.uses: dict[str, _Use] = {}
+        self.by_type: dict[str, list[str]] = {}
+        self.paths: dict[str, list[Path]] = {}
         self.wires: dict[tuple[str, str], list[Wire]] = {}
-        self.met_wires: set[tuple[str, str]] = set()
+        self.wire_times: dict[tuple[str, str], Fraction] = {}
+        self.met: set[Entry] = set()    # what fits the netlist
+        self.taken: set[Entry] = set()  # and has something to say
         self.lost: Counter[str] = Counter()
         self.lost_lines: dict[str, int] = {}
         self.short: list[str] = []
         self.early: list[str] = []
+        self.negative = 0
 
     def annotated(self) -> Annotated:
-        for arc in self.delays.paths:
-            self.uses.setdefault(arc.instance, _Use()).arcs.setdefault((arc.source, arc.target), []).append(arc)
-        for wire in self.delays.wires:
-            self.wires.setdefault((wire.instance, wire.port), []).append(wire)
         for name, instance in self.design.instances.items():
-            if name in self.uses or any((name, port) in self.wires for port in instance.names):
+            self.by_type.setdefault(type_of(instance.type), []).append(name)
+        for path in self.delays.paths:
+            for name in self.instances_of(path, path.place.instance):
+                self.paths.setdefault(name, []).append(path)
+        for wire in self.delays.wires:
+            for name in self.instances_of(wire, wire.instance):
+                self.wires.setdefault((name, wire.port), []).append(wire)
+        for name, instance in self.design.instances.items():
+            if name in self.paths or any((name, port) in self.wires for port in instance.names):
                 self.instance(name, instance)
         self.outputs()
         timing = with_delays(self.netlist, self.base, self.found)
@@ -70,11 +71,14 @@ class _Annotator:
         self.count_lost()
         return Annotated(timing, len(self.found), list(self.notes()))
 
+    def instances_of(self, entry: Entry, instance: str) -> list[str]:
+        """The instances that an entry is for: of `(INSTANCE *)` all of its type."""
+        return self.by_type.get(entry.place.cell_type, []) if instance == ANY else [instance]
+
     # one instance
 
     def instance(self, name: str, instance: Instance) -> None:
         """The delays of the gates and flip-flops of an instance."""
-        use = self.uses.setdefault(name, _Use())
         template, names = instance.template, instance.names
         for symbol, gate in template.gates.items():
             if gate.kind is not Kind.DFF:
@@ -92,7 +96,7 @@ class _Annotator:
             if target not in template.gates:
                 continue
             for leaf in template.leaves(target):
-                self.leaf(name, instance, use, target, leaf, shifts)
+                self.leaf(name, instance, target, leaf, shifts)
 
     def pin(self, name: str, instance: Instance, flop: str) -> int:
         """How long after the edge at its clock's pin a flip-flop takes its pin, so that the gates before it have what was there at the
@@ -108,18 +112,18 @@ class _Annotator:
             self.found.setdefault(names[leaf.gate], {})[leaf.place] = shift + wire - leaf.after
         return shift
 
-    def leaf(self, name: str, instance: Instance, use: _Use, target: str, leaf: Leaf, shifts: dict[str, int]) -> None:
+    def leaf(self, name: str, instance: Instance, target: str, leaf: Leaf, shifts: dict[str, int]) -> None:
         """The delay at the pin where a way to an output begins."""
         own = instance.names[leaf.gate]
-        arcs = [arc for key in ((leaf.source, target), ("*", target), ("*", "*")) for arc in use.arcs.get(key, ())]
-        use.met.update(key for key in ((leaf.source, target), ("*", target), ("*", "*")) if key in use.arcs)
+        paths = [path for path in self.paths.get(name, ()) if path.source in (leaf.source, ANY) and path.target in (target, ANY)]
+        self.met.update(paths)
+        arc = delay_of(paths, self.delays.corner, self.taken)
         is_flop = leaf.gate in shifts
         if is_flop:
             self.shifts[own] = shifts[leaf.gate] + self.wire(name, leaf.source)
         wire = Fraction(0) if is_flop else self.wire_seconds(name, leaf.source)
-        if arcs:
-            total = self.units(self.delays.corner.of(arc.delay for arc in arcs) + wire, arcs[0].line)
-            delay = total - leaf.after
+        if arc is not None:
+            delay = self.units(arc + wire, paths[0].place.line) - leaf.after
         else:
             delay = self.base.delay(self.netlist.gates[own], leaf.place) + self.units(wire, 0)
         if is_flop:
@@ -130,11 +134,15 @@ class _Annotator:
 
     def wire_seconds(self, instance: str, port: str) -> Fraction:
         """What the wire to a port takes, in seconds."""
-        wires = self.wires.get((instance, port))
-        if not wires:
+        key = instance, port
+        if key not in self.wires:
             return Fraction(0)
-        self.met_wires.add((instance, port))
-        return max(Fraction(0), self.delays.corner.of(wire.delay for wire in wires))
+        if key not in self.wire_times:
+            self.met.update(self.wires[key])
+            delay = delay_of(self.wires[key], self.delays.corner, self.taken) or Fraction(0)
+            self.negative += delay < 0
+            self.wire_times[key] = max(Fraction(0), delay)
+        return self.wire_times[key]
 
     def wire(self, instance: str, port: str) -> int:
         """What the wire to a port takes, in units."""
@@ -153,8 +161,7 @@ class _Annotator:
         for (instance, port), wires in self.wires.items():
             gate = self.netlist.gates.get(port) if not instance else None
             if gate is not None and gate.kind is Kind.BUFF and port in self.netlist.outputs and port not in self.found:
-                self.met_wires.add((instance, port))
-                self.found[port] = {0: max(1, self.units(self.delays.corner.of(wire.delay for wire in wires), wires[0].line))}
+                self.found[port] = {0: max(1, self.units(self.wire_seconds(instance, port), wires[0].place.line))}
 
     def clocks(self, timing: Timing) -> None:
         """The clocks of flip-flops that take their pins at other times than the edges."""
@@ -198,38 +205,50 @@ class _Annotator:
 
     def count_lost(self) -> None:
         """Counts the paths and wires that nothing took."""
-        for name, use in self.uses.items():
-            instance = self.design.instances.get(name)
-            for key, paths in use.arcs.items():
-                if key not in use.met:
-                    for path in paths:
-                        self.lose(self.why_lost(instance, key), path.line)
-        for key, wires in self.wires.items():
-            if key not in self.met_wires:
-                for wire in wires:
-                    self.lose(f"{wire.word} to what is no pin of a cell, or one that nothing depends on", wire.line)
+        for path in self.delays.paths:
+            if path not in self.taken:
+                self.lose(_IDLE if path in self.met else f"{path.word} {self.why_lost(path)}", path.place.line)
+        for wire in self.delays.wires:
+            if wire not in self.taken:
+                self.lose(_IDLE if wire in self.met else f"{wire.word} to what is no pin of a cell, or one that nothing depends on", wire.place.line)
 
-    def why_lost(self, instance: Instance | None, key: tuple[str, str]) -> str:
+    def why_lost(self, path: Path) -> str:
+        """What of a path fits nothing of the netlist."""
+        names = self.instances_of(path, path.place.instance)
+        instance = self.design.instances.get(names[0]) if names else None
+        if path.place.instance == ANY and instance is None:
+            return "of every instance of a type of which there is none"
         if instance is None:
-            return "IOPATH of an instance that the netlist does not have"
-        if key[1] not in instance.outputs:
-            return "IOPATH to a port that is no output, or is not connected"
-        if any(port == key[0] for port, _, _ in instance.template.resets):
-            return "IOPATH of a set or reset that acts at edges (--async-reset edge)"
-        return "IOPATH from a port on which the output does not depend"
+            return "of an instance that the netlist does not have" if path.place.instance else "of the design itself, which is no cell"
+        if path.target not in instance.outputs:
+            return "to a port that is no output, or is not connected"
+        if any(port == path.source for port, _, _ in instance.template.resets):
+            return "of a set or reset that acts at edges (--async-reset edge)"
+        return "from a port on which the output does not depend"
+
+    def other_types(self) -> list[str]:
+        """Instances that have another type in the netlist than in the file."""
+        return [f"{name} is {type_of(instance.type)} here, and {own[0]} in line {own[1]}" for name, instance in self.design.instances.items()
+                if (own := self.delays.types.get(name)) and own[0] and own[0] != type_of(instance.type)]
 
     def notes(self) -> Iterator[str]:
         """What is to be told."""
-        count = len(self.delays.paths)
-        lost = sum(number for what, number in self.lost.items() if what.startswith("IOPATH"))
-        yield f"{count - lost} of {count} IOPATH and {len(self.delays.wires) - (sum(self.lost.values()) - lost)} of {len(self.delays.wires)} INTERCONNECT and PORT are used"
+        used, paths, wires = len(self.taken), self.delays.paths, self.delays.wires
+        of_paths = sum(path in self.taken for path in paths)
+        yield f"{of_paths} of {len(paths)} IOPATH and {used - of_paths} of {len(wires)} INTERCONNECT and PORT are used"
         for counts, lines in ((self.delays.left_out, self.delays.first_lines), (self.lost, self.lost_lines)):
             for what, number in counts.items():
                 yield f"left out: {number} {what}, the first in line {lines[what]}"
-        chosen = sum(path.is_chosen for path in self.delays.paths)
+        chosen = sum(path.is_chosen for path in paths)
         if chosen:
             word = "least" if self.delays.corner.value == "min" else "greatest"
             yield f"{chosen} IOPATH have different numbers for rise and fall: the {word} counts for both"
+        if self.negative:
+            yield f"{self.negative} wires have a delay below 0, which is taken as 0"
+        others = self.other_types()
+        if others:
+            yield (f"{len(others)} instances have another type in the netlist than in the file, which may be that of another netlist: "
+                   f"{'; '.join(others[:_SHOWN])}{' ...' * (len(others) > _SHOWN)}")
         if self.short:
             yield (f"{len(self.short)} arcs are shorter than the gates inside their cells, which take so much longer: "
                    f"{'; '.join(self.short[:_SHOWN])}{' ...' * (len(self.short) > _SHOWN)}")

@@ -2,7 +2,7 @@
 from __future__ import annotations
 
 import re
-from collections.abc import Iterable, Iterator, Mapping, Sequence
+from collections.abc import Collection, Iterable, Iterator, Mapping, Sequence
 
 from ..circuit.kinds import Kind
 from ..command_line.bars import Bar
@@ -36,10 +36,12 @@ class Mismatch:
 @dataclass(slots=True)
 class Comparison:
     """The first mismatches, by time, and of one time those first that others follow from; those where the dump has x, and a value is here;
-    how many signals were compared at how many times; and the signals of which not all was asked, since it took too much."""
+    those where x is here, which may come of flip-flops that the dump does not have; how many signals were compared at how many times; and
+    the signals of which not all was asked, since it took too much."""
 
     differing: list[Mismatch]
     unknown: list[Mismatch]
+    unclear: list[Mismatch]
     signals: int
     times: int
     dear: list[str]
@@ -85,10 +87,14 @@ def without_further_names(netlist: Netlist, dumped: Mapping[str, Changes]) -> di
     return {name: changes for name, changes in dumped.items() if not is_further(name)}
 
 
-def compare(session: Session, dumped: Mapping[str, Changes], events: Sequence[int], times: Sequence[int] | range) -> Comparison:
-    """Compares signals, each with its changes in the dump, at these times, ascending. The windows that are asked have some 64 events each."""
+def compare(session: Session, dumped: Mapping[str, Changes], events: Sequence[int], times: Sequence[int] | range,
+            lost: Collection[str] = (), ascending: Collection[str] = ()) -> Comparison:
+    """Compares signals, each with its changes in the dump, at these times, ascending. The windows that are asked have some 64 events each.
+    The flip-flops `lost` begin with x since the dump does not have them; of the buses `ascending` words begin with the lowest bit."""
     first: dict[str, int] = {}
     unknown: dict[str, int] = {}
+    unclear: dict[str, int] = {}
+    reached = session.netlist.reached(*lost) if lost else set()
     dear: dict[str, None] = {}
     pieces = list(_pieces(events, times))
     with Bar(len(pieces) * len(dumped), "waves", has_lines=True) as bar:
@@ -98,15 +104,15 @@ def compare(session: Session, dumped: Mapping[str, Changes], events: Sequence[in
                 if wave is None:
                     dear[name] = None
                     continue
-                for time, _, there in _differences(wave.changes, dumped[name], piece):
-                    own = unknown if there in "xz" else first
+                for time, here, there in _differences(wave.changes, dumped[name], piece):
+                    own = unknown if there in "xz" else unclear if here in "xz" and name in reached else first
                     own.setdefault(name, time)
                     if name in first:
                         break
             bar.add(len(waves))
     order = _order(session.netlist)
-    return Comparison(_mismatches(session, dumped, first, order), _mismatches(session, dumped, unknown, order), len(dumped), len(times),
-                      list(dear))
+    differing, unknown_there, unknown_here = (_mismatches(session, dumped, own, order, ascending) for own in (first, unknown, unclear))
+    return Comparison(differing, unknown_there, unknown_here, len(dumped), len(times), list(dear))
 
 
 def _pieces(events: Sequence[int], times: Sequence[int] | range) -> Iterator[Sequence[int]]:
@@ -160,7 +166,8 @@ def _order(netlist: Netlist) -> dict[str, int]:
     return order
 
 
-def _mismatches(session: Session, dumped: Mapping[str, Changes], first: Mapping[str, int], order: Mapping[str, int]) -> list[Mismatch]:
+def _mismatches(session: Session, dumped: Mapping[str, Changes], first: Mapping[str, int], order: Mapping[str, int],
+                ascending: Collection[str]) -> list[Mismatch]:
     """The mismatches of nets and buses, with the words of both."""
     buses: dict[str, dict[int, str]] = {}
     for name in dumped:
@@ -175,8 +182,8 @@ def _mismatches(session: Session, dumped: Mapping[str, Changes], first: Mapping[
         if whole in done:
             continue
         done.add(whole)
-        places = sorted(buses[whole], reverse=True) if parts else []
-        is_bus = len(places) > 1 and len(places) == places[0] - places[-1] + 1
+        places = sorted(buses[whole], reverse=whole not in ascending) if parts else []
+        is_bus = len(places) > 1 and len(places) == abs(places[0] - places[-1]) + 1
         bits = [buses[whole][place] for place in places] if is_bus else [name]
         with session.batch() as batch:
             asked = [batch.at(bit, time, MOST_BUDGET) for bit in bits]

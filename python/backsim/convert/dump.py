@@ -1,20 +1,20 @@
 """From a dump of another simulator: the stimulus of a netlist, the edges of clocks, and replies to compare with.
 
-A unit of time is so many ticks of the dump. A change between two units counts at the later one; where an input or a clock has such a
-change, it is refused."""
+A unit of time is so many ticks of the dump, or a tick is so many units. A change between two units counts at the later one; where an input
+or a clock has such a change, it is refused."""
 from __future__ import annotations
 
 from collections.abc import Iterable, Iterator, Sequence
 from contextlib import nullcontext
 
 from ..command_line.bars import Bar
-from ..errors import FormatError, type_of_path
+from ..errors import FormatError, UsageError, type_of_path
 from ..formats.dump_files import MEGABYTE, megabytes_of
 from ..formats.netlist import Netlist
 from ..formats.script import AtLine, FirstLine, Go, Line, WaveLine
 from ..formats.stimulus import Stimulus
 from ..formats.timing import Clock
-from ..formats.units import Unit, units_of
+from ..formats.units import Scale, Unit, scale_of, units_of
 from ..formats.vcd import Changes, Selection, Vcd, read_vcd, value_at
 from ..limits import MOST_TIME
 from ..records import dataclass
@@ -23,23 +23,30 @@ from .build import constant_value
 
 @dataclass(frozen=True, slots=True)
 class Dump:
-    """The signals of a scope of a dump, with times in units of so many ticks. `scope` has dots between its parts, as `bench.dut`. Times
-    count from `start`, in units from the beginning of the file."""
+    """The signals of a scope of a dump, with times in units. `scope` has dots between its parts, as `bench.dut`. Times count from `start`,
+    in units from the beginning of the file, and `stop` is the last one that was asked for, None where that is the dump's end."""
 
     vcd: Vcd
     scope: str
-    ticks: int = 1
+    scale: Scale
     start: int = 0
+    stop: int | None = None
 
     @property
     def unit(self) -> Unit:
         """What a unit of time is."""
-        return Unit(self.vcd.ticks, self.vcd.unit).times(self.ticks)
+        return self.scale.unit
 
     @property
     def last(self) -> int:
         """The last whole unit that the dump reaches."""
-        return self.vcd.last // self.ticks
+        last = self._base + self.scale.unit_at(self.vcd.last)
+        return last if self.stop is None else min(last, self.stop - self.start)
+
+    @property
+    def _base(self) -> int:
+        """Where the first tick that is kept begins, in units from the start: less than a tick before it."""
+        return self.scale.unit_at(self.scale.tick_at(self.start)) - self.start
 
     def bits(self, names: Iterable[str]) -> dict[str, Changes]:
         """The changes of the bits of these names that are dumped. A single bit is also found as bit 0 of a vector of one bit."""
@@ -52,20 +59,20 @@ class Dump:
         """The changes at whole units, of those within one unit the last; neighbours differ."""
         units: dict[int, str] = {}
         for tick, value in changes:
-            units[-(-tick // self.ticks)] = value
+            units[max(0, self._base + self.scale.unit_from(tick))] = value
         before = ""
         found = []
         for time, value in units.items():
-            if value != before:
+            if value != before and time <= self.last:
                 found.append((time, value))
                 before = value
         return found
 
     def exact(self, name: str, changes: Changes) -> list[tuple[int, str]]:
         """The changes of a signal. FormatError where one is not at a whole unit."""
-        between = next((tick for tick, _ in changes if tick % self.ticks), None)
+        between = next((tick for tick, _ in changes if not self.scale.is_whole(tick)), None)
         if between is not None:
-            raise FormatError(self.vcd.path, None, f"{self.scope}.{name} changes at {between} ticks, between two units of {self.ticks}: "
+            raise FormatError(self.vcd.path, None, f"{self.scope}.{name} changes at {between} ticks, between two units of {self.scale.ticks}: "
                               "give a unit fewer ticks")
         return self.in_units(changes)
 
@@ -80,19 +87,16 @@ class Span:
     start: int | str = 0
     stop: int | str | None = None
 
-    def ticks_of(self, vcd: Vcd) -> int:
-        """The ticks of a unit. FormatError where the unit is no multiple of the dump's tick."""
-        if self.unit is None:
-            return self.ticks
-        ticks = self.unit.seconds / Unit(vcd.ticks, vcd.unit).seconds
-        if ticks.denominator != 1:
-            raise FormatError(vcd.path, None, f"a tick of it is {vcd.ticks} {vcd.unit}, and {self.unit} is no multiple of that: a finer "
-                              "tick is the second time of Verilog's `timescale`")
-        return int(ticks)
+    def scale(self, vcd: Vcd) -> Scale:
+        """The ticks of the dump in units. FormatError where the unit is neither a multiple of the dump's tick nor a divisor of it."""
+        tick = Unit(vcd.ticks, vcd.unit)
+        try:
+            return scale_of(tick, self.unit or tick.times(self.ticks))
+        except UsageError as error:
+            raise FormatError(vcd.path, None, str(error)) from None
 
-    def units(self, vcd: Vcd) -> tuple[int, int | None]:
+    def units(self, unit: Unit) -> tuple[int, int | None]:
         """The times in units."""
-        unit = Unit(vcd.ticks, vcd.unit).times(self.ticks_of(vcd))
         return units_of(self.start, unit), None if self.stop is None else units_of(self.stop, unit)
 
 
@@ -102,12 +106,12 @@ def read_dump(path: type_of_path, scope: str, span: Span = Span(), names: Iterab
     wanted = None if names is None else {name for own in names for name in (own, f"{own}[0]")}
 
     def select(vcd: Vcd) -> Selection:
-        ticks = span.ticks_of(vcd)
-        start, stop = span.units(vcd)
+        scale = span.scale(vcd)
+        start, stop = span.units(scale.unit)
         if stop is not None and stop < start:
             raise FormatError(path, None, f"the window ends at {stop}, before its beginning at {start}")
         vcd.in_scope(scope)
-        return Selection(None if wanted is None else vcd.codes(scope, wanted), start * ticks, None if stop is None else stop * ticks)
+        return Selection(None if wanted is None else vcd.codes(scope, wanted), scale.tick_at(start), None if stop is None else scale.tick_from(stop))
 
     total = megabytes_of(path)
     bar = Bar(total, "MB", has_lines=True) if total else None
@@ -121,7 +125,11 @@ def read_dump(path: type_of_path, scope: str, span: Span = Span(), names: Iterab
                 bar.add((done // MEGABYTE) - (done - count) // MEGABYTE)
 
         vcd = read_vcd(path, select, progress)
-    return Dump(vcd, scope, span.ticks_of(vcd), span.units(vcd)[0])
+    scale = span.scale(vcd)
+    dump = Dump(vcd, scope, scale, *span.units(scale.unit))
+    if dump.last < 0:
+        raise FormatError(path, None, f"the dump ends at {dump.start + dump.last}, before {dump.start}, where the window begins")
+    return dump
 
 
 def warning_of(dump: Dump) -> list[str]:
@@ -136,7 +144,7 @@ def stimulus_of(netlist: Netlist, dump: Dump) -> Stimulus:
     units, or has a value other than 0, 1, x and z, and where the horizon is above 1,000,000."""
     if dump.last > MOST_TIME:
         raise FormatError(dump.vcd.path, None, f"its last time is {dump.last} units, above {MOST_TIME}: take a window of it (--from, "
-                          "--to), or a unit of more ticks")
+                          "--to), or a greater unit")
     bits = dump.bits(netlist.inputs)
     stimulus = Stimulus(dump.last, unit=dump.unit)
     for name in netlist.inputs:
@@ -174,7 +182,7 @@ def clock_of(dump: Dump, name: str, is_falling: bool) -> Clock:
     if wrong is not None:
         raise _fault(dump, f"the clock {name} is not regular: it {word} at {first}, {first + period} and so on, but not so at {wrong}")
     if max(first, period) > MOST_TIME:
-        raise _fault(dump, f"the clock {name} has a time above {MOST_TIME}: give a unit more ticks")
+        raise _fault(dump, f"the clock {name} has a time above {MOST_TIME}: take a greater unit")
     return Clock(first, period)
 
 

@@ -15,7 +15,8 @@ def add_unit(parser: argparse.ArgumentParser) -> None:
     units = parser.add_mutually_exclusive_group()
     units.add_argument("--ticks", type=count_of(1, MOST_TICKS), metavar="N", help="how many ticks of the dump are a unit of time, 1 "
                        "where it is left out")
-    units.add_argument("--unit", type=unit_word, metavar="TIME", help="how long a unit is, in place of --ticks, as 10ps")
+    units.add_argument("--unit", type=unit_word, metavar="TIME", help="how long a unit is, in place of --ticks, as 10ps; a multiple of the "
+                       "dump's tick, or a divisor")
 
 
 def span_of(arguments: argparse.Namespace, known: Unit | None = None) -> Span:

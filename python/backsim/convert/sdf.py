@@ -1,24 +1,23 @@
-"""SDF, the standard delay format of IEEE 1497: the paths of its cells and their delays."""
+"""SDF, the standard delay format of IEEE 1497-2001, read: the paths of its cells, the wires, and their delays."""
 from __future__ import annotations
 
-import enum
 import re
 from collections import Counter
-from collections.abc import Iterable, Iterator, Sequence
+from collections.abc import Iterator
 from dataclasses import field
 from fractions import Fraction
-from typing import TypeVar
 
 from ..errors import FormatError, type_of_path
 from ..formats.text import read_foreign
 from ..formats.units import Unit
 from ..records import dataclass
+from .sdf_entries import ANY, Corner, Numbers, Path, Place, Wire
 
 _TOKEN = re.compile(r'\s+|//[^\n]*|/\*.*?\*/|([()])|"((?:[^"\\]|\\.)*)"|((?:\\.|[^\s()"])+)', re.S)
 _NUMBER = re.compile(r"[+-]?(?:[0-9]+(?:\.[0-9]*)?|\.[0-9]+)(?:[eE][+-]?[0-9]{1,2})?")
+_LETTER = re.compile(r"\\.|.", re.S)
 _SCALE = re.compile(r"(1|10|100)(?:\.0*)?\s*(s|ms|us|ns|ps|fs)")
 MOST_DEPTH = 100
-_Number = TypeVar("_Number", int, Fraction)
 _HEADER = ("SDFVERSION", "DESIGN", "DATE", "VENDOR", "PROGRAM", "VERSION", "VOLTAGE", "PROCESS", "TEMPERATURE")
 
 
@@ -40,62 +39,16 @@ class _Form:
         return [part for part in self.parts if isinstance(part, _Form)]
 
 
-class Corner(enum.Enum):
-    """Which number of `min:typ:max` counts; where it is not stated, the greatest of the others. Of rise and fall, of edges and of
-    conditions the greatest counts, and with MIN the least."""
-
-    MIN = "min"
-    TYP = "typ"
-    MAX = "max"
-
-    def of(self, numbers: Iterable[_Number]) -> _Number:
-        """The one that counts of numbers for rise and fall, edges and conditions."""
-        return min(numbers) if self is Corner.MIN else max(numbers)
-
-    def of_triple(self, numbers: Sequence[Fraction | None]) -> Fraction | None:
-        """The one that counts of a triple, or of a single number; None where there is none."""
-        own = numbers[list(Corner).index(self)] if len(numbers) == 3 else None
-        if own is not None:
-            return own
-        stated = [number for number in numbers if number is not None]
-        return max(stated) if stated else None
-
-
-@dataclass(frozen=True, slots=True)
-class Path:
-    """An IOPATH: the instance of its cell, the port from which it goes and the one to which, whether it states an edge of the first,
-    its delay in seconds, and whether it has several numbers of which this is one. A DEVICE is a path from every port, `*`."""
-
-    line: int
-    instance: str
-    source: str
-    target: str
-    has_edge: bool
-    delay: Fraction
-    is_chosen: bool = False
-
-
-@dataclass(frozen=True, slots=True)
-class Wire:
-    """An INTERCONNECT or PORT: the instance of the cell to whose port it leads, empty for the design itself, the port, and its delay in
-    seconds."""
-
-    line: int
-    word: str
-    instance: str
-    port: str
-    delay: Fraction
-
-
 @dataclass(slots=True)
 class Delays:
-    """The paths and wires of a file, the unit of its numbers, the corner that was read, and how often each other form was left
-    out, with its first line."""
+    """The paths and wires of a file, in its order, the unit of its numbers, the corner that was read, the types of its instances with the
+    lines of their cells, and how often each other form was left out, with its first line."""
 
     unit: Unit
     corner: Corner = Corner.MAX
     paths: list[Path] = field(default_factory=list)
     wires: list[Wire] = field(default_factory=list)
+    types: dict[str, tuple[str, int]] = field(default_factory=dict)
     left_out: Counter[str] = field(default_factory=Counter)
     first_lines: dict[str, int] = field(default_factory=dict)
 
@@ -183,73 +136,87 @@ class _Reader:
 
     def name_of(self, word: str) -> str:
         """A name without its escapes, and with dots between its parts."""
-        return ".".join(re.sub(r"\\(.)", r"\1", part) for part in self.parts_of(word))
+        return ".".join(self.parts_of(word))
 
     def parts_of(self, word: str) -> list[str]:
-        """The parts of a name between dividers that are not escaped."""
-        return re.split(rf"(?<!\\){re.escape(self.divider)}", word)
+        """The parts of a name between dividers that are not escaped, without their escapes."""
+        parts = [""]
+        for letter in _LETTER.findall(word):
+            if letter == self.divider:
+                parts.append("")
+            else:
+                parts[-1] += letter[-1]
+        return parts
 
     def cell(self, form: _Form) -> None:
-        instance = ""
+        cell_type, instance = self.only_word(form, "CELLTYPE"), self.only_word(form, "INSTANCE")
+        name = instance if instance == ANY else self.name_of(instance)
+        self.delays.types.setdefault(name, (cell_type, form.line))
         for inner in form.forms():
-            if inner.word == "INSTANCE":
-                instance = self.name_of((inner.words() or [""])[0])
-            elif inner.word == "DELAY":
+            if inner.word == "DELAY":
                 for kind in inner.forms():
-                    if kind.word == "ABSOLUTE":
+                    if kind.word in ("ABSOLUTE", "INCREMENT"):
                         for entry in kind.forms():
-                            self.entry(instance, entry, entry.line)
+                            self.entry(Place(entry.line, cell_type, name, kind.word == "INCREMENT"), entry)
                     else:
                         self.delays.leave_out(kind.word, kind.line)
-            elif inner.word != "CELLTYPE":
+            elif inner.word not in ("CELLTYPE", "INSTANCE"):
                 self.delays.leave_out(inner.word, inner.line)
 
-    def entry(self, instance: str, form: _Form, line: int) -> None:
-        """A form below ABSOLUTE; of a condition the path in it counts."""
+    def only_word(self, cell: _Form, keyword: str) -> str:
+        """The word in the one form of this keyword in a cell; empty where there is none."""
+        found = [form for form in cell.forms() if form.word == keyword]
+        if len(found) > 1 or any(len(form.parts) > 2 or form.forms() for form in found):
+            raise self.fault(found[-1].line, f"expected one `({keyword} NAME)` in a cell")
+        return "".join(found[0].words()) if found else ""
+
+    def entry(self, place: Place, form: _Form) -> None:
+        """A form below ABSOLUTE or INCREMENT; of a condition the path in it counts."""
         if form.word in ("COND", "CONDELSE"):
-            for inner in form.forms():
-                if inner.word == "IOPATH":
-                    self.entry(instance, inner, line)
+            *inner, path = form.parts
+            if not isinstance(path, _Form) or path.word != "IOPATH":
+                raise self.fault(form.line, f"expected `({form.word} .. (IOPATH ..))`")
+            self.path_of(Place(path.line, place.cell_type, place.instance, place.is_increment), path, _text_of(inner))
         elif form.word == "IOPATH":
-            self.path_of(instance, form)
+            self.path_of(place, form)
         elif form.word == "DEVICE":
-            self.device_of(instance, form)
+            self.device_of(place, form)
         elif form.word in ("INTERCONNECT", "PORT"):
-            self.wire_of(instance, form)
+            self.wire_of(place, form)
         else:
             self.delays.leave_out(form.word, form.line)
 
-    def path_of(self, instance: str, form: _Form) -> None:
+    def path_of(self, place: Place, form: _Form, condition: str = "") -> None:
         ports = form.parts[1:3]
         first: str | _Form = ports[0] if ports else ""
         second: str | _Form = ports[1] if len(ports) == 2 else form
-        source = first.words() if isinstance(first, _Form) else [first]
-        if not source or not isinstance(second, str):
+        source = first.parts if isinstance(first, _Form) else ["", first]
+        if len(source) != 2 or not all(isinstance(part, str) for part in source) or not source[1] or not isinstance(second, str):
             raise self.fault(form.line, "expected `(IOPATH PORT PORT (DELAY) ..)`")
+        edge, port = (str(part) for part in source)
         numbers = self.delays_of(form, form.parts[3:])
         if numbers:
-            self.delays.paths.append(Path(form.line, instance, self.name_of(source[-1]), self.name_of(second), isinstance(first, _Form),
-                                          self.corner.of(numbers), len(set(numbers)) > 1))
+            self.delays.paths.append(Path(place, form.word, (condition, edge.lower()), numbers, self.name_of(port), self.name_of(second)))
 
-    def device_of(self, instance: str, form: _Form) -> None:
+    def device_of(self, place: Place, form: _Form) -> None:
         ports = form.words()[:1]
         numbers = self.delays_of(form, form.parts[1 + len(ports):])
         if numbers:
-            target = self.name_of(ports[0]) if ports else "*"
-            self.delays.paths.append(Path(form.line, instance, "*", target, False, self.corner.of(numbers), len(set(numbers)) > 1))
+            self.delays.paths.append(Path(place, form.word, ("", ""), numbers, ANY, self.name_of(ports[0]) if ports else ANY))
 
-    def wire_of(self, instance: str, form: _Form) -> None:
+    def wire_of(self, place: Place, form: _Form) -> None:
         count = 2 if form.word == "INTERCONNECT" else 1
         ports = form.words()[:count]
         if len(ports) != count or form.parts[1:1 + count] != ports:
             raise self.fault(form.line, f"expected `({form.word}{' PORT' * count} (DELAY) ..)`")
         numbers = self.delays_of(form, form.parts[1 + count:])
         if numbers:
-            *inner, port = (re.sub(r"\\(.)", r"\1", part) for part in self.parts_of(ports[-1]))
-            whole = ".".join(([instance] if instance else []) + inner)
-            self.delays.wires.append(Wire(form.line, form.word, whole, port, self.corner.of(numbers)))
+            *inner, port = self.parts_of(ports[-1])
+            whole = ".".join(([place.instance] if place.instance else []) + inner)
+            driver = self.name_of(ports[0]) if count == 2 else ""
+            self.delays.wires.append(Wire(place, form.word, (driver,), numbers, whole, port))
 
-    def delays_of(self, form: _Form, parts: list[str | _Form]) -> list[Fraction]:
+    def delays_of(self, form: _Form, parts: list[str | _Form]) -> Numbers | None:
         """The delays of a rise and a fall, in seconds; those that follow them are of z. Counts a form that has none."""
         found: list[Fraction | None] = []
         for part in parts:
@@ -259,10 +226,11 @@ class _Reader:
                 self.delays.leave_out("RETAIN", part.line)
             else:
                 found.append(self.number(part))
-        numbers = [number * self.delays.unit.seconds for number in found[:2] if number is not None]
-        if not numbers:
+        numbers = [None if number is None else number * self.delays.unit.seconds for number in found[:2]]
+        if numbers in ([], [None], [None, None]):
             self.delays.leave_out(f"{form.word} without a number", form.line)
-        return numbers
+            return None
+        return numbers[0], numbers[-1]
 
     def number(self, form: _Form) -> Fraction | None:
         """The number of `(1)`, `(1:2:3)` or `(1::3)` that counts, and of several such in brackets that of the first, the others being
@@ -271,7 +239,11 @@ class _Reader:
         if inner:
             return self.number(inner[0])
         words = " ".join(part for part in form.parts if isinstance(part, str)).replace(" ", "").split(":")
-        for word in words:
-            if word and not _NUMBER.fullmatch(word):
-                raise self.fault(form.line, f"`{':'.join(words)[:40]}` is no delay")
+        if len(words) not in (1, 3) or any(word and not _NUMBER.fullmatch(word) for word in words):
+            raise self.fault(form.line, f"`{':'.join(words)[:40]}` is no delay")
         return self.corner.of_triple([Fraction(word) if word else None for word in words])
+
+
+def _text_of(parts: list[str | _Form]) -> str:
+    """What a condition is, with its keyword: two with the same words are the same."""
+    return "".join(part if isinstance(part, str) else f"({_text_of(part.parts)})" for part in parts)

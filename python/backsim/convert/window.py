@@ -33,9 +33,10 @@ class Begin:
 
 @dataclass(slots=True)
 class Window:
-    """The timing of a window, and what is to be told."""
+    """The timing of a window, the flip-flops that begin with x since the dump does not have them, and what is to be told."""
 
     timing: Timing
+    lost: list[str] = field(default_factory=list)
     notes: list[str] = field(default_factory=list)
 
 
@@ -117,7 +118,7 @@ def window_of(netlist: Netlist, timing: Timing, dump: Dump, begin: Begin) -> Win
             initials[flop.name] = value
         elif _value_of(flop.name, netlist, known, fanout, _DEPTH) is None:
             lost.append(flop.name)
-    made = Window(replace(timing, clock=begin.clock, clocks=begin.clocks, initials=initials, lines={}))
+    made = Window(replace(timing, clock=begin.clock, clocks=begin.clocks, initials=initials, lines={}), lost)
     made.notes.append(f"the flip-flops are those of the dump from {begin.time} on, {begin.time - dump.start} in the window; gates before it may be x")
     if lost:
         made.notes.append(f"{len(lost)} flip-flops are not dumped, and begin with x: {', '.join(lost[:_SHOWN])}{' ...' * (len(lost) > _SHOWN)}")

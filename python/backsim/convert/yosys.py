@@ -255,6 +255,12 @@ def plain_name(name: str) -> str:
     return "".join(letter if is_name(letter) else "_" for letter in name)[-NAME_LIMIT + 12:]
 
 
+def type_of(word: str) -> str:
+    """The name of a module as the source has it, without the parameters that Yosys adds to it (`$paramod\\LUT2\\INIT=...`)."""
+    parts = word.split("\\")
+    return parts[1] if parts[0].startswith("$paramod") and len(parts) > 1 else word
+
+
 def _new_name(stem: str, taken: set[str]) -> str:
     """The name, without what no name may have, with a number behind it where it is taken."""
     stem = plain_name(stem)

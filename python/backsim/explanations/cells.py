@@ -5,10 +5,10 @@ the first that decides, each one delay before the cell begins; of a flip-flop it
 is tested by these rules, so what is shown follows."""
 from __future__ import annotations
 
-import sys
-from bisect import bisect_right, insort
-from collections.abc import Iterator, Sequence
+from bisect import bisect_right
+from collections.abc import Iterable, Sequence
 from dataclasses import field
+from typing import NamedTuple
 
 from ..circuit.kinds import Kind
 from ..circuit.rules import Cell, Design, Role
@@ -18,8 +18,7 @@ from ..records import dataclass
 from ..values import Proof, ProofCell
 
 
-@dataclass(frozen=True, slots=True)
-class Node:
+class Node(NamedTuple):
     """A cell of a signal. `kind` and `pins` are those of its gate or flip-flop; an input has none."""
 
     name: str
@@ -31,8 +30,7 @@ class Node:
     pins: tuple[str, ...] = ()
 
 
-@dataclass(frozen=True, slots=True)
-class Edge:
+class Edge(NamedTuple):
     """The node number `effect` follows from the node number `cause`, which its pin number `pin`, counted from 0, saw: the pin's
     signal at `time`, below 0 where the pin's delay had not passed. `matters` says whether the value comes from this pin; the
     others were looked at before a pin that decides, or are known pins of an unknown value."""
@@ -42,6 +40,10 @@ class Edge:
     pin: int
     time: int
     matters: bool
+
+
+# an edge, by the same five
+_Edge = tuple[int, int, int, int, bool]
 
 
 @dataclass(frozen=True, slots=True)
@@ -92,42 +94,61 @@ def explain(design: Design, proof: Proof, path: type_of_path = "proof", line: in
     return builder.claim(proof.name, proof.time, (proof,))
 
 
-def way_of(design: Design, table: CellTable, name: str, time: int, proofs: Sequence[Proof], has_all: bool = False) -> CellGraph:
-    """The graph of proofs whose cells are in the table, one for each bit of `name`, as far as it can be come to from the roots by pins
-    that matter. The other pins that were looked at are in it as well, and what these follow from only with `has_all`. It takes time for
-    what it comes to. FormatError where a cell does not follow from the others."""
+def way_of(design: Design, table: CellTable, name: str, time: int, proofs: Iterable[Proof], has_all: bool = False) -> CellGraph:
+    """The graph of proofs, one for each bit of `name`, as far as it can be come to from the roots by pins that matter. The other pins that
+    were looked at are in it as well, and what these follow from only with `has_all`. The cells of a proof are added to the table, and what
+    is new in it is looked at, before the next proof is taken. FormatError where a cell does not follow from the others."""
     builder = _Builder(design, table, "the session's reply", 0)
-    return builder.reach(name, time, proofs, has_all)
+    roots = []
+    for proof in proofs:
+        table.take(proof)
+        roots.append(proof)
+        builder.reach(builder.root_of(proof), has_all)
+    return builder.claim(name, time, roots)
 
 
 class CellTable:
     """The cells of proofs by their signals, and the base answers."""
 
-    def __init__(self, design: Design, proofs: Sequence[Proof] = ()) -> None:
+    def __init__(self, design: Design) -> None:
         self.design = design
-        self._own: dict[str, list[tuple[int, int, str]]] = {}
-        names = design.netlist.names
-        for proof in proofs:
-            for cell in proof.cells:
-                self._own.setdefault(names[cell.signal], []).append((cell.start, cell.end, cell.value))
-        if len(proofs) > 1:
-            self._own = {name: sorted(set(cells)) for name, cells in self._own.items()}
+        # by their names the starts of a signal's cells and the cells, both in their order
+        self._own: dict[str, tuple[list[int], list[Cell]]] = {}
+        self._taken: dict[int, ProofCell] = {}
+
+    def take(self, proof: Proof) -> None:
+        """Adds the cells of a proof. Those that an earlier one had are mostly the same objects."""
+        taken = self._taken
+        fresh = [cell for cell in proof.cells if id(cell) not in taken]
+        taken.update((id(cell), cell) for cell in fresh)
+        found: dict[int, set[tuple[int, int, str]]] = {}
+        for cell in fresh:
+            found.setdefault(cell.signal, set()).add((cell.start, cell.end, cell.value))
+        for signal, cells in found.items():
+            name = self.design.netlist.names[signal]
+            if name in self._own:
+                cells.update((cell.start, cell.end, cell.value) for cell in self._own[name][1])
+            ordered = sorted(cells)
+            self._own[name] = [start for start, _, _ in ordered], [Cell(*one) for one in ordered]
 
     def add(self, name: str, cell: ProofCell) -> None:
         """Adds a cell of the signal."""
-        insort(self._own.setdefault(name, []), (cell.start, cell.end, cell.value))
+        starts, cells = self._own.setdefault(name, ([], []))
+        place = bisect_right(starts, cell.start)
+        starts.insert(place, cell.start)
+        cells.insert(place, Cell(cell.start, cell.end, cell.value))
 
     def at(self, name: str, time: int) -> tuple[Role, Cell] | None:
         """What is known of the signal at a time: a base answer, or a cell of the proofs; None where nothing is."""
-        base = self.design.base(name, time)
-        if base is not None:
-            return base
-        own = self._own.get(name, ())
-        place = bisect_right(own, (time, sys.maxsize, ""))
-        if not place or own[place - 1][1] <= time:
+        first, role = self.design.evaluated(name)
+        if time < first:
+            return self.design.base(name, time)
+        own = self._own.get(name)
+        if own is None:
             return None
-        role = Role.FLOP if self.design.netlist.gates[name].kind is Kind.DFF else Role.GATE
-        return role, Cell(*own[place - 1])
+        place = bisect_right(own[0], time)
+        cell = own[1][place - 1] if place else None
+        return None if cell is None or cell.end <= time else (role, cell)
 
 
 class _Builder:
@@ -135,13 +156,14 @@ class _Builder:
 
     def __init__(self, design: Design, table: CellTable, path: type_of_path, first: int) -> None:
         self.design = design
+        self.gates = design.netlist.gates
         self.table = table
         self.path = path
         self.first = first
         self.nodes: list[Node] = []
-        self.edges: list[Edge] = []
-        self.numbers: dict[tuple[str, Role, int, int], int] = {}
-        self.delays: dict[str, tuple[int, ...]] = {}
+        self.edges: list[_Edge] = []
+        self.reached: set[int] = set()
+        self.numbers: dict[tuple[str, int, int, bool], int] = {}
 
     def fault(self, line: int, cause: str) -> FormatError:
         return FormatError(self.path, line, cause)
@@ -159,69 +181,64 @@ class _Builder:
         self.edges += self.expand(line, self.number_of(name, role, Cell(cell.start, cell.end, cell.value)))
         self.table.add(name, cell)
 
-    def expand(self, line: int, number: int) -> list[Edge]:
-        """The edges from an evaluated cell to those that it follows from, in the order of its pins. FormatError where it does not."""
-        node = self.nodes[number]
-        gate = self.design.netlist.gates[node.name]
-        found = list(self.looked_at(line, gate, node.start))
-        expected = self.cell_of(gate, node.start, found)
-        if expected != Cell(node.start, node.end, node.value):
-            raise self.fault(line, f"this does not follow: {node.name} has the value {expected.value} from {expected.start} on and below "
-                                   f"{expected.end}")
-        matters = _matter(gate.kind, [self.nodes[cause].value for cause, _ in found])
-        return [Edge(number, cause, pin, time, own) for pin, ((cause, time), own) in enumerate(zip(found, matters))]
+    def expand(self, line: int, number: int) -> list[_Edge]:
+        """The edges from an evaluated cell to those that it follows from, in the order of its pins up to the one that decides. FormatError
+        where it does not."""
+        nodes, node = self.nodes, self.nodes[number]
+        gate = self.gates[node.name]
+        kind, delays = gate.kind, self.design.delays(gate)
+        edge = self.design.shown_edge(gate, node.start) if kind is Kind.DFF else None
+        found: list[tuple[int, int]] = []
+        values: list[str] = []
+        begin, end = min(delays), self.design.stimulus.horizon + 1
+        for signal, delay in zip(gate.pins, delays):
+            time = node.start - delay if edge is None else edge
+            cause = self.seen(line, gate, node.start, signal, time, delay)
+            own = nodes[cause]
+            found.append((cause, time))
+            values.append(own.value)
+            moved = delay if time >= 0 else 0
+            begin, end = max(begin, own.start + moved), min(end, own.end + moved)
+            if kind.decides(own.value):
+                break
+        if edge is not None:
+            begin, end = self.shown(gate, edge)
+        value = kind.gate_value(values)
+        if (begin, end, value) != (node.start, node.end, node.value):
+            raise self.fault(line, f"this does not follow: {node.name} has the value {value} from {begin} on and below {end}")
+        return [(number, cause, pin, time, own) for pin, ((cause, time), own) in enumerate(zip(found, _matter(kind, values)))]
 
-    def looked_at(self, line: int, gate: Gate, start: int) -> Iterator[tuple[int, int]]:
-        """For each pin that is looked at the node of what it sees, and the time at which its signal is read."""
-        for signal, delay in zip(gate.pins, self.delays_of(gate)):
-            edge = self.design.shown_edge(gate, start) if gate.kind is Kind.DFF else None
-            time = start - delay if edge is None else edge
-            if time >= 0:
-                answer = self.table.at(signal, time)
-                if answer is None:
-                    raise self.fault(line, f"{gate.name} from {start} on needs {signal} at {time}, which no line above says")
-                node = self.number_of(signal, *answer)
-            else:
-                node = self.number_of(signal, Role.UNSEEN, Cell(0, delay, "x"))
-            yield node, time
-            if gate.kind.decides(self.nodes[node].value):
-                return
+    def seen(self, line: int, gate: Gate, start: int, signal: str, time: int, delay: int) -> int:
+        """The node of what a pin of a gate sees of its signal at a time, which is below 0 before the pin's delay has passed."""
+        if time < 0:
+            return self.number_of(signal, Role.UNSEEN, Cell(0, delay, "x"))
+        answer = self.table.at(signal, time)
+        if answer is None:
+            raise self.fault(line, f"{gate.name} from {start} on needs {signal} at {time}, which no line above says")
+        return self.number_of(signal, *answer)
 
-    def delays_of(self, gate: Gate) -> tuple[int, ...]:
-        if gate.name not in self.delays:
-            self.delays[gate.name] = self.design.delays(gate)
-        return self.delays[gate.name]
+    def shown(self, flop: Gate, edge: int) -> tuple[int, int]:
+        """From when on, and up to when, a flip-flop shows what it took at an edge."""
+        end, clock = self.design.stimulus.horizon + 1, self.design.clock_of(flop)
+        begin = edge + self.design.delays(flop)[0]
+        return begin, min(begin + clock.period, end) if clock else end
 
     def number_of(self, name: str, role: Role, cell: Cell) -> int:
         """The number of the node of a cell, which has one however often it is read."""
-        key = (name, role, cell.start, cell.end)
+        # of a signal's cells those of one role alone begin at a time, but for what a pin sees before its delay
+        key = (name, cell.start, cell.end, role is Role.UNSEEN)
         number = self.numbers.get(key)
         if number is None:
             number = self.numbers[key] = len(self.nodes)
-            gate = self.design.netlist.gates.get(name) if role is not Role.UNSEEN else None
+            gate = self.gates.get(name) if role is not Role.UNSEEN else None
             kind, pins = (gate.kind, gate.pins) if gate else (None, ())
             self.nodes.append(Node(name, role, cell.start, cell.end, cell.value, kind, pins))
         return number
 
-    def cell_of(self, gate: Gate, start: int, found: Sequence[tuple[int, int]]) -> Cell:
-        """The cell that the rules give at a time from what the pins see."""
-        end = self.design.stimulus.horizon + 1
-        value = gate.kind.gate_value([self.nodes[cause].value for cause, _ in found])
-        delays = self.delays_of(gate)
-        if gate.kind is Kind.DFF:
-            begin, clock = found[0][1] + delays[0], self.design.clock_of(gate)
-            return Cell(begin, min(begin + clock.period, end) if clock else end, value)
-        begin = min(delays)
-        for (cause, time), delay in zip(found, delays):
-            node = self.nodes[cause]
-            moved = 0 if time < 0 else delay
-            begin, end = max(begin, node.start + moved), min(end, node.end + moved)
-        return Cell(begin, end, value)
-
     def claim(self, name: str, time: int, proofs: Sequence[Proof]) -> CellGraph:
         """The graph of what the first lines of the proofs say, one for each bit of `name`."""
         roots = [self.root_of(proof) for proof in proofs]
-        whole = CellGraph(name, time, "".join(proof.value for proof in proofs), tuple(self.nodes), tuple(self.edges), {}, tuple(roots))
+        whole = CellGraph(name, time, "".join(proof.value for proof in proofs), tuple(self.nodes), (), {}, tuple(roots))
         return _reached(whole, self.edges)
 
     def root_of(self, proof: Proof) -> int:
@@ -237,20 +254,19 @@ class _Builder:
             raise self.fault(self.first, f"by the lines {proof.name} is {answer[1].value} at {proof.time}, and not {proof.value}")
         return self.number_of(proof.name, *answer)
 
-    def reach(self, name: str, time: int, proofs: Sequence[Proof], has_all: bool) -> CellGraph:
-        """The graph of what is come to from the claims."""
-        queue = list(dict.fromkeys(self.root_of(proof) for proof in proofs))
-        found = set(queue)
+    def reach(self, root: int, has_all: bool) -> None:
+        """Adds what is come to from a root, and was not yet."""
+        queue = [] if root in self.reached else [root]
+        self.reached.update(queue)
         for number in queue:
             if self.nodes[number].role.is_leaf:
                 continue
             edges = self.expand(0, number)
             self.edges += edges
-            for edge in edges:
-                if (edge.matters or has_all) and edge.cause not in found:
-                    found.add(edge.cause)
-                    queue.append(edge.cause)
-        return self.claim(name, time, proofs)
+            for _, cause, _, _, matters in edges:
+                if (matters or has_all) and cause not in self.reached:
+                    self.reached.add(cause)
+                    queue.append(cause)
 
 
 def _matter(kind: Kind, seen: Sequence[str]) -> list[bool]:
@@ -261,19 +277,18 @@ def _matter(kind: Kind, seen: Sequence[str]) -> list[bool]:
     return unknown if any(unknown) else [True] * len(seen)
 
 
-def _reached(whole: CellGraph, edges: Sequence[Edge]) -> CellGraph:
+def _reached(whole: CellGraph, edges: Sequence[_Edge]) -> CellGraph:
     """The part that one comes to from the roots by these edges, with the first root as number 0."""
-    following: dict[int, list[Edge]] = {}
+    following: list[list[_Edge]] = [[] for _ in whole.nodes]
     for edge in edges:
-        following.setdefault(edge.effect, []).append(edge)
+        following[edge[0]].append(edge)
     order = {root: place for place, root in enumerate(dict.fromkeys(whole.roots))}
     for node in (queue := list(order)):
-        for edge in following.get(node, []):
-            if edge.cause not in order:
-                order[edge.cause] = len(order)
-                queue.append(edge.cause)
-    kept = tuple(Edge(order[edge.effect], order[edge.cause], edge.pin, edge.time, edge.matters)
-                 for node in order for edge in following.get(node, []))
-    return CellGraph(whole.name, whole.time, whole.value, tuple(whole.nodes[node] for node in order), kept,
+        for _, cause, *_ in following[node]:
+            if cause not in order:
+                order[cause] = len(order)
+                queue.append(cause)
+    kept = tuple([Edge(order[effect], order[cause], pin, time, matters) for node in queue for effect, cause, pin, time, matters in following[node]])
+    return CellGraph(whole.name, whole.time, whole.value, tuple([whole.nodes[node] for node in queue]), kept,
                      {order[node]: count for node, count in whole.hidden.items() if node in order},
                      tuple(order[root] for root in whole.roots))

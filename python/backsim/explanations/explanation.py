@@ -1,7 +1,7 @@
 """Why a signal has its value at a time, as one thing to ask."""
 from __future__ import annotations
 
-from collections.abc import Collection, Sequence
+from collections.abc import Collection, Iterable, Sequence
 from functools import cached_property
 from typing import TYPE_CHECKING, Any
 
@@ -26,14 +26,15 @@ class Explanation:
     did not suffice before. With `until`, the ways end at these signals, and with `depth` after so many steps.
     `str(explanation)` is what `backsim-tools why` writes."""
 
-    def __init__(self, design: Design, name: str, time: int, proofs: Sequence[Proof], *, until: Collection[str] = (),
+    def __init__(self, design: Design, name: str, time: int, proofs: Iterable[Proof], *, until: Collection[str] = (),
                  depth: int | None = None, has_all: bool = False, spent: Sequence[int] = ()) -> None:
         self.design = design
-        self.spent = tuple(spent)
         self._until = frozenset(until)
         self._depth = depth
-        self._table = CellTable(design, proofs)
+        self._table = CellTable(design)
         self.graph: CellGraph = way_of(design, self._table, name, time, proofs, has_all)
+        # the proofs may still be asked for while they are taken
+        self.spent = tuple(spent)
         self.name, self.time, self.value = name, time, self.graph.value
 
     @property

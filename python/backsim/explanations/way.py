@@ -32,6 +32,8 @@ class Parts:
         self._netlist = netlist
         self._wholes: dict[str, str] = {}
         self._selects: dict[str, tuple[str, ...]] = {}
+        self._served: dict[str, bool] = {}
+        self._lines: dict[str, str] = {}
 
     def whole(self, name: str) -> str:
         """The signal of which this one is a part, or itself."""
@@ -48,15 +50,26 @@ class Parts:
 
     def serves(self, name: str) -> bool:
         """Whether the signal is no signal of the source: a part of another, or one that only a tool gave a name."""
-        return _INTERNAL.match(name) is not None or self.whole(name) != name
+        found = self._served.get(name)
+        if found is None:
+            found = self._served[name] = _INTERNAL.match(name) is not None or self.whole(name) != name
+        return found
+
+    def line(self, name: str) -> str:
+        """The file and the line of a gate in the source, or an empty text."""
+        found = self._lines.get(name)
+        if found is None:
+            found = self._lines[name] = line_of(self._netlist.gates[name].source)
+        return found
 
     def selects(self, name: str) -> tuple[str, ...]:
         """Of a gate that is a choice of a multiplexer the select and its negation; else nothing."""
-        if name not in self._selects:
+        found = self._selects.get(name)
+        if found is None:
             reader = self._netlist.gates.get(self._reader(name) or "")
-            found = multiplexer_of(self._netlist, reader) if reader is not None and name in reader.pins[:2] else None
-            self._selects[name] = found or ()
-        return self._selects[name]
+            own = multiplexer_of(self._netlist, reader) if reader is not None and name in reader.pins[:2] else None
+            found = self._selects[name] = own or ()
+        return found
 
 
 def line_of(source: str) -> str:
@@ -136,9 +149,8 @@ class Way:
             return cause.name == self.parts.whole(effect.name)
         if self.parts.serves(cause.name):
             return True
-        gates = self.design.netlist.gates
-        line = line_of(gates[cause.name].source)
-        return line != "" and line == line_of(gates[effect.name].source)
+        line = self.parts.line(cause.name)
+        return line != "" and line == self.parts.line(effect.name)
 
     def to(self, number: int) -> list[int]:
         """The nodes of the way from a root to the node, the root first."""

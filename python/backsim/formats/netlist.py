@@ -84,17 +84,16 @@ class Netlist:
     def cone(self, name: str) -> set[str]:
         """The fan-in cone: the signal and all that it can come from, through flip-flops too. KeyError where there is no such."""
         self.number_of(name)
-        return _closure(name, lambda signal: self.gates[signal].pins if signal in self.gates else ())
+        return _closure((name,), lambda signal: self.gates[signal].pins if signal in self.gates else ())
 
-    def reached(self, name: str) -> set[str]:
-        """The signal and all in whose fan-in cone it is. KeyError where there is no such signal."""
-        self.number_of(name)
+    def reached(self, *names: str) -> set[str]:
+        """The signals and all in whose fan-in cone one of them is. KeyError where there is no such signal."""
         fanout = self.fanout()
-        return _closure(name, lambda signal: fanout[signal])
+        return _closure(names, lambda signal: fanout[signal])
 
 
-def _closure(start: str, followers: Callable[[str], Iterable[str]]) -> set[str]:
-    found, left = {start}, [start]
+def _closure(starts: Iterable[str], followers: Callable[[str], Iterable[str]]) -> set[str]:
+    found, left = set(starts), list(starts)
     while left:
         for name in followers(left.pop()):
             if name not in found:

@@ -1,6 +1,7 @@
 """Proofs: why a signal has a value at a time (docs/use/FORMATS.md, Proofs). `backsim_check` judges them."""
 from __future__ import annotations
 
+import re
 from collections.abc import Sequence
 from typing import TextIO
 
@@ -9,7 +10,51 @@ from ..limits import MOST_NUMBER, PROOF_LIMIT
 from ..values import LOGIC, Proof, ProofCell
 from .text import is_name, read_bytes
 
-__all__ = ["Proof", "ProofCell", "cell_of", "claim_of", "parse_proof", "plain_number", "plain_numbers", "read_proof", "write_proof"]
+__all__ = ["CellLines", "Proof", "ProofCell", "cell_of", "claim_of", "parse_proof", "plain_number", "plain_numbers", "read_proof", "write_proof"]
+
+_NUMBER = rb"(0|[1-9][0-9]{0,9})"
+_CELL = re.compile(rb"cell %b %b %b ([%b])" % (_NUMBER, _NUMBER, _NUMBER, "".join(LOGIC).encode()))
+_MOST_KNOWN = 1 << 20
+
+
+class CellLines:
+    """Reads the lines of cells of many proofs, one cell for all lines that are the same: the proofs of the bits of a bus have most of their
+    lines in common."""
+
+    def __init__(self) -> None:
+        self._known = _Known()
+
+    def cells_of(self, body: bytes) -> tuple[ProofCell, ...] | None:
+        """The cells of lines with their line feeds; None where one of the lines is no cell."""
+        lines = body.split(b"\n")
+        if lines.pop():
+            return None
+        if len(self._known) > _MOST_KNOWN:
+            self._known.clear()
+        try:
+            return tuple(map(self._known.__getitem__, lines))
+        except ValueError:
+            return None
+
+
+class _Known(dict[bytes, ProofCell]):
+    """The cells of lines, each made when its line comes first. ValueError of a line that is no cell."""
+
+    def __missing__(self, line: bytes) -> ProofCell:
+        cell = _cell_in(line)
+        if cell is None:
+            raise ValueError(line)
+        self[line] = cell
+        return cell
+
+
+def _cell_in(line: bytes) -> ProofCell | None:
+    """The cell of a line, as `cell_of` has it of its words."""
+    parts = _CELL.fullmatch(line)
+    if parts is None:
+        return None
+    signal, start, end = map(int, parts.group(1, 2, 3))
+    return ProofCell(signal, start, end, parts[4].decode()) if max(signal, start, end) <= MOST_NUMBER else None
 
 
 def plain_number(word: str) -> int | None:

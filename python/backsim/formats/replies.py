@@ -7,9 +7,9 @@ from typing import BinaryIO
 
 from ..errors import FormatError, type_of_path
 from ..records import dataclass
-from ..values import LOGIC, Answer, At, Budget, Past, Refusal, Unknown, Wave
-from .lines import REPLIES, AtLine, Line, WaveLine
-from .proof import plain_numbers
+from ..values import LOGIC, Answer, At, Budget, Past, Proof, Refusal, Unknown, Wave
+from .lines import REPLIES, AtLine, Line, WaveLine, WhyLine
+from .proof import CellLines, plain_numbers
 from .text import is_name, opened
 
 
@@ -112,32 +112,48 @@ def reply_of(data: bytes, line: int, path: type_of_path = "replies") -> Reply:
     return next(ReplyReader(lines, path, line - 1))
 
 
-def usual_answer(line: Line, text: bytes) -> Answer | None:
-    """The answer to an `at` or a `wave` line, where the bytes are the value or the waveform that it asks for; None where they are not,
-    or the line is another: then they are read as any reply is. Nearly all replies are of these two forms, and a session reads them by
-    the ten thousand, so here they are compared with what the line leads one to expect."""
-    if type(line) is AtLine:
-        value = _value_of(line, text)
-        return None if value is None else At(line.name, line.time, value)
-    if type(line) is WaveLine and line.start < line.stop:
-        head = f"{line.head}\n".encode()
-        if not text.startswith(head):
-            return None
-        words = text[len(head):-4].split()
-        # one that is no value leaves fewer values than times
-        values = [value for value in map(_LETTERS.get, words[1::2]) if value is not None]
-        try:
-            times = tuple(map(int, words[::2]))
-        except ValueError:
-            return None
-        if len(times) == len(values) and times and (
-                times[0] == line.start and times[-1] < line.stop and all(map(lt, times, times[1:]))):
-            return Wave(line.name, line.start, line.stop, tuple(zip(times, values)))
+class UsualAnswers:
+    """Reads replies to `at`, `wave` and `why` lines of one session. Nearly all replies are of these forms, and a session reads them by the
+    ten thousand, or proofs of a hundred thousand lines, so here they are compared with what the line leads one to expect."""
+
+    def __init__(self) -> None:
+        self._cells = CellLines()
+
+    def answer(self, line: Line, text: bytes) -> Answer | None:
+        """The answer, where the bytes are the value, the waveform or the proof that the line asks for; None where they are not, or the line is
+        another: then they are read as any reply is."""
+        if type(line) is AtLine:
+            value = _value_of(line.head, text)
+            return None if value is None else At(line.name, line.time, value)
+        if type(line) is WaveLine and line.start < line.stop:
+            return _wave_of(line, text)
+        if type(line) is WhyLine and text.endswith(b"\nend\n"):
+            begin = text.index(b"\n") + 1
+            value = _value_of(line.head, text[:begin])
+            cells = self._cells.cells_of(text[begin:-4]) if value is not None else None
+            return None if value is None or cells is None else Proof(line.name, line.time, value, cells)
+        return None
+
+
+def _wave_of(line: WaveLine, text: bytes) -> Wave | None:
+    head = f"{line.head}\n".encode()
+    if not text.startswith(head):
+        return None
+    words = text[len(head):-4].split()
+    # one that is no value leaves fewer values than times
+    values = [value for value in map(_LETTERS.get, words[1::2]) if value is not None]
+    try:
+        times = tuple(map(int, words[::2]))
+    except ValueError:
+        return None
+    if len(times) == len(values) and times and times[0] == line.start and times[-1] < line.stop and all(map(lt, times, times[1:])):
+        return Wave(line.name, line.start, line.stop, tuple(zip(times, values)))
     return None
 
 
-def _value_of(line: AtLine, text: bytes) -> str | None:
-    head = f"at {line.name} {line.time} ".encode()
+def _value_of(start: str, text: bytes) -> str | None:
+    """The value of a line that says it behind this start."""
+    head = f"{start} ".encode()
     return _VALUES.get(text[len(head):]) if text.startswith(head) else None
 
 

@@ -41,6 +41,45 @@ class Unit:
         return Unit(whole, words[place])
 
 
+@dataclass(frozen=True, slots=True)
+class Scale:
+    """The ticks of a dump in units of time: `ticks` of them are `units` units, and one of the two numbers is 1. Ticks and units count from
+    one beginning."""
+
+    unit: Unit
+    ticks: int = 1
+    units: int = 1
+
+    def is_whole(self, tick: int) -> bool:
+        """Whether a unit begins at the tick."""
+        return tick * self.units % self.ticks == 0
+
+    def unit_at(self, tick: int) -> int:
+        """The last unit that begins at the tick or before it."""
+        return tick * self.units // self.ticks
+
+    def unit_from(self, tick: int) -> int:
+        """The first unit that begins at the tick or after it."""
+        return -(-tick * self.units // self.ticks)
+
+    def tick_at(self, unit: int) -> int:
+        """The last tick at the beginning of the unit or before it."""
+        return unit * self.ticks // self.units
+
+    def tick_from(self, unit: int) -> int:
+        """The first tick at the beginning of the unit or after it."""
+        return -(-unit * self.ticks // self.units)
+
+
+def scale_of(tick: Unit, unit: Unit) -> Scale:
+    """The scale of a dump whose tick this is. UsageError where the unit is neither a multiple of the tick nor a divisor of it."""
+    ticks = unit.seconds / tick.seconds
+    if 1 not in (ticks.numerator, ticks.denominator):
+        common = Unit(int(tick.seconds / ticks.denominator * 10 ** SECONDS["fs"]), "fs").times(1)
+        raise UsageError(f"a tick of it is {tick}, and {unit} is neither a multiple nor a divisor of that: {common} is a divisor of both")
+    return Scale(unit, ticks.numerator, ticks.denominator)
+
+
 def is_time(text: str) -> bool:
     """Whether the text is a time such as `15ns`."""
     return _TIME.fullmatch(text.strip()) is not None

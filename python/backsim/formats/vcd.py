@@ -105,6 +105,11 @@ class Vcd:
                     found[name] = tuple(_without_repeats((time, value[place]) for time, value in self.changes(variable)))
         return found
 
+    def ascending(self, scope: str) -> set[str]:
+        """The names of the vectors of the scope and of those below it whose leftmost bit has the lowest number, as `key` of `key[0:7]`."""
+        return {_below(scope, variable) for variable in self.in_scope(scope)
+                if variable.left is not None and variable.right is not None and variable.left < variable.right}
+
     def codes(self, scope: str, names: Iterable[str]) -> set[str]:
         """The codes of the variables of which a bit has one of these names in the scope."""
         wanted = {*names}

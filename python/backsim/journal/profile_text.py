@@ -23,20 +23,28 @@ def add_arguments(parser: argparse.ArgumentParser) -> None:
     """The options of a profile, for a command that has JOURNAL."""
     parser.add_argument("--profile", action="store_true", help="tell where the evaluations went, in place of a judgement")
     parser.add_argument("--netlist", type=Path, metavar="FILE", help="the netlist: signals are told by their names")
-    parser.add_argument("--timing", type=Path, metavar="FILE")
+    parser.add_argument("--timing", type=Path, metavar="FILE", help="the timing file, which --stimulus goes with")
     parser.add_argument("--stimulus", type=Path, metavar="FILE",
                         help="with the netlist and the timing: which budget suffices for each question alone, over an empty memo")
     parser.add_argument("--script", type=Path, metavar="FILE", help="the script: questions are told by their lines")
-    parser.add_argument("--most", type=int, default=USUAL_MOST, metavar="N",
+    parser.add_argument("--most", type=int, metavar="N",
                         help=f"how many questions and signals are listed, {USUAL_MOST} where it is left out")
     parser.add_argument("--picture", type=Path, metavar="FILE", help="draw the profile too, as .svg or .png")
+
+
+def check_unused(arguments: argparse.Namespace) -> None:
+    """WordsError where an option of a profile is given, for what makes none."""
+    for name in ("netlist", "timing", "stimulus", "script", "most", "picture"):
+        if getattr(arguments, name) is not None:
+            raise WordsError(f"--{name} is for --profile")
 
 
 def run(journal: Path, arguments: argparse.Namespace) -> int:
     """Writes the profile of a journal by these arguments; gives the exit status."""
     form = form_of(arguments.picture, ("svg", "png")) if arguments.picture else None
-    if arguments.most < 1:
-        raise WordsError(f"--most takes a number from 1 on, and not {arguments.most}")
+    most = USUAL_MOST if arguments.most is None else arguments.most
+    if most < 1:
+        raise WordsError(f"--most takes a number from 1 on, and not {most}")
     if (arguments.timing is None) != (arguments.stimulus is None) or arguments.timing and not arguments.netlist:
         raise WordsError("--timing and --stimulus go together, with --netlist")
     design = read_design(arguments.netlist, arguments.timing, arguments.stimulus) if arguments.timing else None
@@ -47,7 +55,7 @@ def run(journal: Path, arguments: argparse.Namespace) -> int:
     if names is not None and any(signal >= len(names) for signal in profile.signals):
         raise FormatError(journal, None, f"it has signals that {arguments.netlist} does not have: it is of another netlist")
     needs = _needs(profile, design, journal)
-    sys.stdout.writelines(f"{line}\n" for line in profile_lines(profile, names, texts, needs, arguments.most))
+    sys.stdout.writelines(f"{line}\n" for line in profile_lines(profile, names, texts, needs, most))
     if form:
         from ..pictures.profile import profile_picture
         write_picture(arguments.picture, profile_picture(profile, form, names, texts))

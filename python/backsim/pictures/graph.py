@@ -9,6 +9,7 @@ from typing import TYPE_CHECKING
 
 from ..errors import BacksimError, MissingExtra
 from ..explanations.cells import CellGraph, Edge, Node
+from ..explanations.sentences import word_text
 from .words import shortened, times_of, what_of
 
 if TYPE_CHECKING:
@@ -28,7 +29,7 @@ def dot_text(explanation: CellGraph, summary: Sequence[str] = ()) -> str:
     """The graph in graphviz's language. An arrow goes from a cell to each that it follows from; it is dashed where the pin was
     looked at and does not matter to the value. Leaves have a rounded border, and what is explained a thick one. The lines of the summary
     stand below the title."""
-    lines = _head(f"why {explanation.name} is {explanation.value} at {explanation.time}", summary)
+    lines = _head(f"why {explanation.name} is {word_text(explanation.value)} at {explanation.time:,}", summary)
     lines += _axis(sorted({node.start for node in explanation.nodes}))
     lines += [_node(number, node, explanation.hidden.get(number, 0), number in explanation.roots)
               for number, node in enumerate(explanation.nodes)]
@@ -60,7 +61,7 @@ def steps_text(explanation: Explanation, summary: Sequence[str] = (), most: int 
             boxes.setdefault(step.nodes[0], step)
             if after is not None:
                 arrows[after.nodes[0], step.nodes[0]] = None
-    lines = _head(f"why {explanation.name} is {explanation.value} at {explanation.time}", summary)
+    lines = _head(f"why {explanation.name} is {word_text(explanation.value)} at {explanation.time:,}", summary)
     lines += [_step(number, step, number in explanation.graph.roots) for number, step in list(boxes.items())[:most]]
     lines += [f"  n{cause} -> n{effect};" for cause, effect in arrows]
     return "\n".join([*lines, "}", ""])
@@ -101,7 +102,7 @@ def _rendered(text: str, form: str) -> bytes:
 
 def _axis(times: list[int]) -> list[str]:
     """The times at which cells begin, in a row of their own."""
-    words = [f"t{time} [label={_quoted(f't = {time}')}];" for time in times]
+    words = [f"t{time} [label={_quoted(f't = {time:,}')}];" for time in times]
     chain = [" -> ".join(f"t{time}" for time in times) + ";"] if len(times) > 1 else []
     return ["  subgraph cluster_time {", f"    peripheries=0; label=\"\"; node [shape=plaintext, style=\"\", fontcolor={_quoted(_QUIET)}]; "
             "edge [dir=none, style=dotted, color=\"#9aa3ad\", weight=100];", *(f"    {word}" for word in words + chain), "  }"]

@@ -10,6 +10,7 @@ from typing import TYPE_CHECKING
 
 from ..circuit.rules import Role
 from ..explanations.cells import CellGraph
+from ..explanations.sentences import word_text
 from .words import sentence_of, times_of, what_of
 
 if TYPE_CHECKING:
@@ -66,7 +67,7 @@ patternTransform="rotate(45)"><rect width="7" height="7" fill="#fdeae8"/><rect w
 def page_of(graph: CellGraph, horizon: int, explanation: Explanation | None = None) -> str:
     """The page of a graph, as text in UTF-8. `horizon` is the last time of the simulation. With the explanation the page begins with its
     summary and chains, of which a step opens to its cells."""
-    title = f"Why {graph.name} is {graph.value} at {graph.time}"
+    title = f"Why {graph.name} is {word_text(graph.value)} at {graph.time:,}"
     summary = "" if explanation is None else "\n".join(_summary(explanation)) + "\n"
     own = files(__package__)
     return _PAGE.format(policy=escape(_POLICY), title=escape(title), summary=summary, data=_data_of(graph, horizon),

@@ -8,7 +8,7 @@ from ..circuit.buses import wave_of
 from ..records import dataclass
 from ..values import Wave
 
-RADIXES = ("hex", "dec", "bin")
+RADIXES = ("hex", "dec", "signed", "bin")
 _BIT = re.compile(r"(.+)\[([0-9]{1,6})\]")
 
 
@@ -85,11 +85,13 @@ def with_buses(rows: Sequence[Row]) -> list[Row]:
 
 def word_text(word: str, radix: str) -> str:
     """A word as it is written in a bus. Of a number in hexadecimal a digit is `x` or `z` where its bits are all so, and `X` where some
-    are unknown; a decimal number is `x` where a bit is unknown."""
+    are unknown; a decimal number, `signed` in two's complement, is `x` where a bit is unknown."""
     if radix == "bin":
         return word
-    if radix == "dec":
-        return str(int(word, 2)) if not word.strip("01") else "z" if not word.strip("z") else "x"
+    if radix in ("dec", "signed"):
+        if word.strip("01"):
+            return "x" if word.strip("z") else "z"
+        return str(int(word, 2) - (1 << len(word) if radix == "signed" and word[0] == "1" else 0))
     padded = word.rjust(-(-len(word) // 4) * 4, word[0] if word[0] in "xz" else "0")
     return "".join(_digit(padded[place:place + 4]) for place in range(0, len(padded), 4))
 

@@ -9,7 +9,9 @@ from .rows import Row, cut, word_text
 
 Points = list[tuple[float, float]]
 HALF = 0.32
-_TIP, _GAP = 0.045, 0.12
+_TIP, _GAP = 0.045, 0.08
+# of a value that is longer than its room the beginning is written, where so many letters fit
+_LEAST_LETTERS = 3
 _LEAST_WIDTH, _LEAST_GAP, _LEAST_RUN = 0.06, 0.06, 0.006
 _LEVELS = {"0": -HALF, "1": HALF}
 
@@ -109,9 +111,16 @@ class Shapes:
             shape = [(begin, y), (begin + tip, y + HALF), (end - tip, y + HALF), (end, y), (end - tip, y - HALF), (begin + tip, y - HALF)]
             is_unknown = not word.strip("x")
             self.areas["x" if is_unknown else "part" if word.strip("01") else "bus"].append(shape)
-            text = "" if is_unknown else word_text(word, self.radix)
-            if text and len(text) * self.letter + 2 * _TIP + _GAP <= (end - begin) * self.unit:
+            text = "" if is_unknown else self._fitting(word_text(word, self.radix), (end - begin) * self.unit - _GAP)
+            if text:
                 self.texts.append(((begin + end) / 2, y, text))
+
+    def _fitting(self, text: str, width: float) -> str:
+        """What of a text has room in a width in inches: the whole, or its beginning, or nothing."""
+        room = int(width / self.letter + 1e-9)
+        if len(text) <= room:
+            return text
+        return f"{text[:room - 1]}…" if room >= _LEAST_LETTERS else ""
 
 
 def _box(begin: float, end: float, y: float) -> Points:

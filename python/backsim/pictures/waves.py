@@ -25,15 +25,15 @@ _UNKNOWN, _MARK = "#9aa3ad", "#0b57d0"
 
 
 def waves_picture(rows: Sequence[Row], form: str, *, start: int | None = None, stop: int | None = None, radix: str = "hex",
-                  marks: Sequence[int] = (), title: str = "") -> bytes:
+                  marks: Sequence[int] = (), title: str = "", unit: str = "") -> bytes:
     """The diagram as `svg` or `png`, of 1 to 64 rows, from `start` on and before `stop`; where these are left out, of all times that a
-    row has. `radix` is that of the values of buses, `hex`, `dec` or `bin`; `marks` are times at which a vertical line stands.
-    UsageError where there is no row, or too many, or no time."""
+    row has. `radix` is that of the values of buses, one of RADIXES; `marks` are times at which a vertical line stands, and
+    `unit` says what a unit of time is, where that is known. UsageError where there is no row, or too many, or no time."""
     if not 1 <= len(rows) <= MOST_ROWS:
         raise UsageError(f"there are {len(rows)} waves, and a picture has from 1 to {MOST_ROWS}: name those to draw")
     begin, end = _window(rows, start, stop)
     with figures.style():
-        return _Diagram(rows, begin, end, radix, title).picture(form, marks)
+        return _Diagram(rows, begin, end, radix, title, unit).picture(form, marks)
 
 
 def _window(rows: Sequence[Row], start: int | None, stop: int | None) -> tuple[int, int]:
@@ -48,8 +48,8 @@ def _window(rows: Sequence[Row], start: int | None, stop: int | None) -> tuple[i
 class _Diagram:
     """One diagram. Lengths are in inches where nothing else is said; y counts the rows downward from 0."""
 
-    def __init__(self, rows: Sequence[Row], start: int, stop: int, radix: str, title: str) -> None:
-        self.rows, self.start, self.stop, self.radix, self.title = rows, start, stop, radix, title
+    def __init__(self, rows: Sequence[Row], start: int, stop: int, radix: str, title: str, unit: str) -> None:
+        self.rows, self.start, self.stop, self.radix, self.title, self.unit = rows, start, stop, radix, title, unit
         self.pitch = 0.5 if len(rows) <= 12 else 0.42 if len(rows) <= 32 else 0.34
         self.size = 11.0 if len(rows) <= 12 else 10.0 if len(rows) <= 32 else 9.0
         self.labels = [shortened(row.label, MOST_LETTERS) for row in rows]
@@ -108,7 +108,7 @@ class _Diagram:
         axes.set_axisbelow(True)
         for side in ("left", "right", "top"):
             axes.spines[side].set_visible(False)
-        axes.set_xlabel("time", fontsize=9.5, color=figures.QUIET)
+        axes.set_xlabel(f"time in units of {self.unit}" if self.unit else "time", fontsize=9.5, color=figures.QUIET)
         reached = -1.0
         for time in sorted(time for time in set(marks) if self.start <= time <= self.stop):
             axes.axvline(time, color=_MARK, linewidth=1.3, linestyle=(0, (4, 2)), zorder=5)

@@ -9,7 +9,7 @@ from ..explanations.cells import Edge, Node
 
 def times_of(node: Node) -> str:
     """The times of a cell, as `t = 4` or `4 ≤ t < 9`."""
-    return f"t = {node.start}" if node.end == node.start + 1 else f"{node.start} ≤ t < {node.end}"
+    return f"t = {node.start:,}" if node.end == node.start + 1 else f"{node.start:,} ≤ t < {node.end:,}"
 
 
 def what_of(node: Node) -> str:

@@ -7,7 +7,7 @@ from collections.abc import Callable, Iterable, Iterator
 from dataclasses import field, replace
 
 from ..errors import UsageError
-from ..formats.replies import Reply, usual_answer
+from ..formats.replies import Reply, UsualAnswers
 from ..formats.script import BadScriptLine, Go, Line
 from ..records import dataclass
 from ..values import Answer
@@ -34,6 +34,7 @@ class Exchange:
         """`answer_of` gives the answer of a reply that is not a plain value or waveform."""
         self._conversation = conversation
         self._answer_of = answer_of
+        self._usual = UsualAnswers()
         self._ended: SessionError | UsageError | None = None
         self._left: deque[Asked] = deque()
         self._count = 0
@@ -99,7 +100,7 @@ class Exchange:
         asked = self._left[0]
         left = asked.lines[len(asked.answers):]
         try:
-            came: list[Answer] = self._conversation.replies_to(left, usual_answer, self._answer_of, waits)
+            came: list[Answer] = self._conversation.replies_to(left, self._usual.answer, self._answer_of, waits)
             if not came and waits:
                 raise self._conversation.error_of(self._conversation.finish())
         except SessionError as error:

@@ -9,17 +9,17 @@ What is asked together in a batch shares what is evaluated, and is answered in o
 from __future__ import annotations
 
 import os
-from collections.abc import Callable, Collection, Iterable, Iterator
-from difflib import get_close_matches
+from collections.abc import Callable, Collection, Iterable, Iterator, Sequence
 from itertools import islice
 from types import TracebackType
 from typing import TYPE_CHECKING, TextIO, TypeVar
 
 from ..circuit import buses
+from ..collecting import without_collection
 from ..errors import FormatError, UsageError, type_of_path
 from ..formats.netlist import Netlist, read_netlist, write_netlist
 from ..formats.replies import Reply
-from ..formats.script import Line
+from ..formats.script import Line, WhyLine
 from ..formats.stimulus import Stimulus, read_horizon, read_stimulus, write_stimulus
 from ..formats.timing import Timing, read_timing, write_timing
 from ..formats.units import Moment, check_units, unit_of_file, units_of
@@ -37,8 +37,22 @@ if TYPE_CHECKING:
     from ..explanations import Explanation
 
 T = TypeVar("T")
-_NEAREST = 3
 _MOST_TRIES = 8
+
+
+class _NoProof(Exception):
+    """An answer that is no proof, where one was asked for."""
+
+    def __init__(self, answer: Unknown | Past | Budget) -> None:
+        self.answer = answer
+
+
+def _proof_of(answer: Answer) -> Proof:
+    """The answer, where it is a proof; else _NoProof."""
+    if isinstance(answer, (Unknown, Past, Budget)):
+        raise _NoProof(answer)
+    assert isinstance(answer, Proof)
+    return answer
 
 
 class Session(SessionQuestions):
@@ -159,14 +173,29 @@ class Session(SessionQuestions):
         time = self.time(time)
         if depth is not None:
             depth = whole_number(depth, "depth", 1)
-        proofs: list[Proof] = []
         spent: list[int] = []
-        for bit in self.bits(name):
-            answer = self.why(bit, time, budget) if budget is not None else self._why_raised(bit, time, spent)
-            if not isinstance(answer, Proof):
-                return answer
-            proofs.append(answer)
-        return Explanation(self.design, name, time, proofs, until=until, depth=depth, has_all=has_all, spent=spent)
+        try:
+            with without_collection():
+                return Explanation(self.design, name, time, self._proofs(self.bits(name), time, budget, spent), until=until, depth=depth,
+                                   has_all=has_all, spent=spent)
+        except _NoProof as found:
+            return found.answer
+
+    def _proofs(self, bits: Sequence[str], time: int, budget: int | None, spent: list[int]) -> Iterator[Proof]:
+        """A proof for each bit; _NoProof with the first answer that is none. After the first bit all others are asked at once, with the
+        budget that did for that, so that the program goes on while proofs are read; where it does not suffice, one after another again."""
+        place = 0
+        while place < len(bits):
+            yield _proof_of(self.why(bits[place], time, budget) if budget is not None else self._why_raised(bits[place], time, spent))
+            place += 1
+            if place > 1:
+                continue
+            own = MOST_BUDGET if budget is None and spent else budget
+            for _, answer in self.ask_each([WhyLine(bit, time, own) for bit in bits[1:]]):
+                if budget is None and isinstance(answer, Budget):
+                    break
+                yield _proof_of(answer)
+                place += 1
 
     def _why_raised(self, name: str, time: int, spent: list[int]) -> Proof | Unknown | Past | Budget:
         """The answer with the usual budget, or with the greatest as long as that helps; `spent` has the budgets that did not suffice."""
@@ -234,5 +263,5 @@ class Session(SessionQuestions):
                 known = self.netlist.names
             except FormatError:
                 known = ()
-            self._nearest[name] = tuple(get_close_matches(name, known, _NEAREST))
+            self._nearest[name] = buses.nearest(name, known)
         return self._nearest[name]

@@ -6,11 +6,11 @@ import {Newest, isGivenUp, reason} from "./link.js";
 const MOST_ROWS = 16, MOST_CAUSES = 4;
 
 export class Causes {
-  #model; #link; #told = null; #root = 0; #newest = new Newest(); #say;
+  #model; #link; #told = null; #root = 0; #newest = new Newest(); #say; #reveal;
   #part = Object.fromEntries(["why", "why-head", "why-state", "why-hint", "causes", "chain", "roots", "roots-label"].map((id) => [id, document.getElementById(id)]));
 
-  constructor(model, link, say) {
-    this.#model = model; this.#link = link; this.#say = say;
+  constructor(model, link, say, reveal) {
+    this.#model = model; this.#link = link; this.#say = say; this.#reveal = reveal;
     this.#part.roots.addEventListener("change", () => { this.#root = this.#part.roots.selectedIndex; this.#choose(0); });
     this.#part.chain.addEventListener("click", (event) => {
       const button = event.target.closest("button");
@@ -71,6 +71,7 @@ export class Causes {
     const row = model.rowOf(step.name);
     if (row) { model.selected = new Set([row.id]); model.focus = row.id; }
     model.changed("rows");
+    if (row) this.#reveal(row.id);
     this.#draw();
     this.#say(`${step.name} is ${step.value} from ${grouped(step.start)} on: ${step.what}`);
   }

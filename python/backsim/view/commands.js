@@ -11,7 +11,7 @@ export const COMMANDS = [
   ["moveUp", "Move the row up", ["Alt+ArrowUp"]],
   ["moveDown", "Move the row down", ["Alt+ArrowDown"]],
   ["remove", "Take the row away", ["Delete", "Backspace"]],
-  ["radix", "Hexadecimal, decimal, binary", ["b"]],
+  ["radix", "Hexadecimal, decimal, signed, binary", ["b"]],
   ["colour", "Next colour", ["c"]],
   ["group", "Group the selected rows", ["g"]],
   ["ungroup", "Dissolve the group", ["u"]],

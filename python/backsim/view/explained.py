@@ -5,6 +5,7 @@ from collections.abc import Sequence
 from typing import Any
 
 from ..circuit.rules import Design
+from ..collecting import without_collection
 from ..explanations.chains import Step
 from ..explanations.explanation import Explanation
 from ..explanations.roots import Cause
@@ -30,13 +31,18 @@ class Explainer:
         if self._design is None:
             timing, stimulus = self._files
             self._design = Design(self._index.netlist(), read_timing(timing), read_stimulus(stimulus))
-        explanation = Explanation(self._design, name, time, proofs)
-        first, *causes = summary_of(explanation)
-        return {
-            "name": name, "time": time, "value": explanation.value, "cells": len(explanation.graph.nodes),
-            "causes": [line.partition(": ")[2] or line.strip() for line in causes],
-            "chains": [_chain(explanation, cause, to) for cause, to in first_few(explanation.causes, MOST_CHAINS)],
-        }
+        with without_collection():
+            return _told(Explanation(self._design, name, time, proofs))
+
+
+def _told(explanation: Explanation) -> dict[str, Any]:
+    """What the page shows of an explanation."""
+    first, *causes = summary_of(explanation)
+    return {
+        "name": explanation.name, "time": explanation.time, "value": explanation.value, "cells": len(explanation.graph.nodes),
+        "causes": [line.partition(": ")[2] or line.strip() for line in causes],
+        "chains": [_chain(explanation, cause, to) for cause, to in first_few(explanation.causes, MOST_CHAINS)],
+    }
 
 
 def _chain(explanation: Explanation, cause: Cause, name: str) -> dict[str, Any]:

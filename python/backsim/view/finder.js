@@ -38,6 +38,8 @@ export class Finder {
   // Gives whether what was found is shown, where no newer search has begun meanwhile.
   async search() {
     const text = this.#field.value.trim(), {signal} = this.#newest;
+    // what was typed before is not looked for any more, which would choose anew
+    clearTimeout(this.#timer);
     this.#show();
     if (!text) { this.#state.textContent = ""; this.#choose([]); return true; }
     try {
@@ -91,7 +93,6 @@ export class Finder {
   }
 
   async #enter() {
-    clearTimeout(this.#timer);
     if (!await this.search()) return;
     const text = this.#field.value.trim();
     // a pattern is meant as a whole

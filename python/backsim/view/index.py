@@ -7,12 +7,11 @@ import threading
 import time
 from bisect import bisect_left
 from collections.abc import Callable, Iterable, Iterator, Mapping
-from difflib import get_close_matches
 from functools import cached_property
 from heapq import nsmallest
 from typing import NamedTuple
 
-from ..circuit.buses import bits_of
+from ..circuit.buses import bits_of, full_name, nearest
 from ..circuit.kinds import kind_of
 from ..convert.build import ONE, ZERO
 from ..errors import UsageError, type_of_path
@@ -30,7 +29,6 @@ _NUMBERS, _DIGITS = re.compile(r"[0-9]+"), 12
 _SEPARATORS = re.compile(r"[./]")
 _KINDS = ("input", "output", "register", "gate")
 _MADE_UP, GENERATED = "$", "made by tools"
-_NEAREST = 3
 # of names that are like another, those of the same beginning are compared at most
 _COMPARED = 2000
 # a block of names waits as long at most for questions that are answered meanwhile, and looks as often whether they are, in seconds
@@ -148,10 +146,17 @@ class Index:
     def _ports(self) -> frozenset[str]:
         return frozenset((*self.inputs, *self.outputs))
 
-    def nearest(self, name: str) -> list[str]:
-        """At most three names that are like the name."""
+    def full(self, name: str) -> str:
+        """The name with its range where it is that of a bus whose range was left out. UsageError as of `full_name`."""
+        if not self._is_read.is_set() and self._is_there(name) or name.endswith("]") and bits_of(name):
+            return name
+        self._wait()
+        return full_name(name, self._kinds)
+
+    def nearest(self, name: str) -> tuple[str, ...]:
+        """At most three signals and buses whose names are like the name."""
         begins = [known for known in self._names if known[:2] == name[:2]][:_COMPARED]
-        return get_close_matches(name, begins or self._names[:_COMPARED], _NEAREST)
+        return nearest(name, begins or self._names[:_COMPARED], self._kinds)
 
     def first(self, count: int) -> list[str]:
         """The signals and buses to begin with: the outputs, and where these are few the inputs above them, without constants of a converter."""

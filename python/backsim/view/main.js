@@ -10,7 +10,7 @@ import {pngOf, save, svgOf} from "./saving.js";
 
 const part = (id) => document.getElementById(id);
 const model = new Model(), link = new Link(), rows = new Rows(model, link, part("list"));
-const causes = new Causes(model, link, say), finder = new Finder(link, add);
+const causes = new Causes(model, link, say, (id) => rows.reveal(id)), finder = new Finder(link, add);
 const canvas = part("canvas"), stage = part("stage"), context = canvas.getContext("2d");
 const ZOOM = 1.5, WHEEL_ZOOM = 1.15, SNAP = 6, POLL = 2000, MORE = 4;
 let colours = theme(), isDue = false, isAsked = false, limits = 1, resume = null, lastValue = "", drag = null, valuesTimer = 0, refused = null;
@@ -87,11 +87,13 @@ function more(number = null) {
 }
 
 function status() {
-  const {cursor, marker, fault} = model;
-  part("at-cursor").textContent = cursor === null ? "–" : grouped(cursor);
-  part("at-cursor").title = cursor === null || !link.state.unit ? "" : inSeconds(cursor, link.state.unit);
-  part("at-marker").textContent = marker === null ? "–" : grouped(marker);
-  part("difference").textContent = cursor === null || marker === null ? "–" : `${cursor < marker ? "−" : ""}${grouped(Math.abs(cursor - marker))}`;
+  const {cursor, marker, fault} = model, unit = link.state?.unit, difference = cursor === null || marker === null ? null : cursor - marker;
+  const signed = (write, time) => `${time < 0 ? "−" : ""}${write(Math.abs(time), unit)}`;
+  for (const [id, name, time] of [["at-cursor", "cursor", cursor], ["at-marker", "marker", marker], ["difference", "difference", difference]]) {
+    part(id).textContent = time === null ? "–" : signed(grouped, time);
+    part(`${name}-seconds`).textContent = time === null || !unit ? "" : signed(inSeconds, time);
+  }
+  part("unit").textContent = unit ? `units of ${unit}` : "";
   part("in-view").textContent = `${grouped(Math.floor(model.start))} – ${grouped(Math.ceil(model.stop) - 1)}`;
   part("fault-item").hidden = !fault;
   part("the-fault").textContent = fault ? `${fault[0]} stuck at ${fault[1]}` : "";
@@ -157,6 +159,8 @@ async function refresh(isPoll = false) {
   isRefreshing = true;
   try {
     const before = link.state, state = await link.get("state");
+    // where the files were loaded anew meanwhile, this may be told of those before
+    if (link.state !== before) { isRefreshing = false; return; }
     link.state = state;
     if (link.isLost && isPoll) { link.isLost = false; notice(""); isAsked = false; due(); }
     part("fills").textContent = grouped(state.fills);
@@ -302,7 +306,7 @@ const acts = {
   up: () => rows.step(-1), down: () => rows.step(1), extendUp: () => rows.step(-1, true), extendDown: () => rows.step(1, true),
   selectAll: () => { model.selected = new Set(model.shown.map((item) => item.id)); model.changed("rows"); },
   moveUp: () => model.shift(-1), moveDown: () => model.shift(1), remove: () => model.remove(),
-  radix: () => { const radix = model.radix(); if (radix) say({hex: "hexadecimal", dec: "decimal", bin: "binary"}[radix]); },
+  radix: () => { const radix = model.radix(); if (radix) say({hex: "hexadecimal", dec: "decimal", signed: "decimal with a sign", bin: "binary"}[radix]); },
   colour: () => model.colour(), ungroup: () => model.ungroup(),
   group: () => { part("group-name").value = "Group"; dialog("group-dialog", () => model.group(part("group-name").value.trim() || "Group")); part("group-name").select(); },
   toggle: () => { if (model.focus !== null) model.toggle(model.focus); },
@@ -511,7 +515,10 @@ async function begin() {
     part("title").textContent = `${netlist} · ${stimulus}`;
     part("title").title = state.files.join("\n");
     document.title = `${netlist} – waves`;
-    model.load(state.view);
+    // what the tab showed before it was loaded anew; the address has the token of this session
+    const kept = sessionStorage.getItem(location.pathname);
+    model.load(kept === null ? state.view : JSON.parse(kept));
+    addEventListener("pagehide", () => sessionStorage.setItem(location.pathname, JSON.stringify(model.document(state.format, state.files))));
     stage.focus();
     setInterval(() => { if (!document.hidden) refresh(true); }, POLL);
     app.begun = performance.now();

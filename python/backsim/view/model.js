@@ -1,7 +1,7 @@
 // What the page shows: rows and groups in order, the window of time, cursor and marker, the fault. Whoever draws listens for "change".
 
 export const COLOURS = 7;
-export const RADIXES = ["hex", "dec", "bin"];
+export const RADIXES = ["hex", "dec", "signed", "bin"];
 const MOST_UNDONE = 100;
 const LEAST_SPAN = 4;
 
@@ -313,7 +313,11 @@ export class Model extends EventTarget {
 
 export function written(word, radix) {
   if (word.length === 1 || radix === "bin") return word;
-  if (radix === "dec") return /^[01]+$/.test(word) ? BigInt(`0b${word}`).toString() : /^z+$/.test(word) ? "z" : "x";
+  if (radix === "dec" || radix === "signed") {
+    if (!/^[01]+$/.test(word)) return /^z+$/.test(word) ? "z" : "x";
+    const number = BigInt(`0b${word}`);
+    return String(radix === "signed" ? BigInt.asIntN(word.length, number) : number);
+  }
   const whole = word.padStart(Math.ceil(word.length / 4) * 4, /^[xz]/.test(word) ? word[0] : "0");
   return whole.replace(/..../g, (digit) => /^[01]+$/.test(digit) ? parseInt(digit, 2).toString(16) : digit === "xxxx" ? "x" : digit === "zzzz" ? "z" : "X");
 }

@@ -177,10 +177,11 @@ export class Scene {
     painter.path(box(0, 0, frame.width, HEAD), {fill: colours.panel});
     painter.path(`M0 ${HEAD - .5}H${frame.width}`, {stroke: colours.line});
     painter.path(ticks.map(({x}) => `M${x} ${HEAD - 6}V${HEAD}`).join(""), {stroke: colours.unasked});
-    const flags = [this.model.cursor, this.model.marker].filter((time) => time !== null).map((time) => this.x(time));
+    const flags = [this.model.cursor, this.model.marker].filter((time) => time !== null).map((time) => this.#plate(time));
     for (const {time, x} of ticks) {
-      const isCovered = flags.some((flag) => Math.abs(flag - x) < grouped(time).length * 6.6 + 8);
-      if (x > 14 && x < frame.width - 14 && !isCovered) painter.text(x, 12, grouped(time), {fill: colours.quiet, font: SANS, align: "center"});
+      const half = grouped(time).length * 3.3 + 4, middle = x < half ? half : x;
+      const isCovered = flags.some(({left, width}) => middle + half > left && middle - half < left + width);
+      if (x < frame.width - 14 && !isCovered) painter.text(middle, 12, grouped(time), {fill: colours.quiet, font: SANS, align: "center"});
     }
   }
 
@@ -197,11 +198,17 @@ export class Scene {
     if (model.cursor !== null) this.#flag(model.cursor, colours.accent);
   }
 
+  // Where the plate with the time of a flag stands in the ruler: at its line, and within the frame.
+  #plate(time) {
+    const width = grouped(time).length * 6.6 + 10;
+    return {left: Math.min(Math.max(1, this.x(time) - width / 2), this.frame.width - width - 1), width};
+  }
+
   #flag(time, colour, dash) {
     const {painter, frame, colours} = this, x = Math.round(this.x(time)) + .5;
     if (x < -40 || x > frame.width + 40) return;
     painter.path(`M${x} ${HEAD - 6}V${HEAD + frame.height}`, {stroke: colour, width: 1.25, dash});
-    const text = grouped(time), width = text.length * 6.6 + 10, left = Math.min(Math.max(1, x - width / 2), frame.width - width - 1);
+    const text = grouped(time), {left, width} = this.#plate(time);
     painter.path(rounded(left, 3, width, 18, 4), {fill: colour});
     painter.text(left + width / 2, 12.5, text, {fill: colours.ground, font: SANS, align: "center", weight: 600});
   }

@@ -17,6 +17,7 @@ function compose(app, painter, colours) {
   const {model, link, rows} = app, frame = app.frame, places = layout(model);
   const height = Math.min(frame.height, Math.max(...places.map((place) => place.y + place.height), 40) - frame.top);
   painter.path(`M0 0H${NAMES + frame.width}V${HEAD + height}H0Z`, {fill: colours.panel});
+  if (link.state.unit) painter.text(14, 15, `units of ${link.state.unit}`, {fill: colours.quiet});
   if (model.cursor !== null) painter.text(NAMES - 10, 15, `at ${grouped(model.cursor)}`, {fill: colours.accent, align: "right"});
   painter.clip(0, HEAD, NAMES, height, () => {
     for (const {item, y, height: own} of places) {

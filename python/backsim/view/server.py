@@ -22,6 +22,7 @@ from ..circuit.buses import written_number
 from ..command_line.arguments import unit_of_session
 from ..convert.waves import dumped_of, runs_of
 from ..errors import BacksimError, UsageError
+from ..formats.units import Unit
 from ..formats.vcd import write_vcd
 from .asker import ROW_LIMIT, Asker, Job, Message, Row, Sought, Turns, Wanted
 from .documents import FORMAT, Document
@@ -402,8 +403,13 @@ def _dump(reader: _Handler, body: dict[str, Any]) -> str:
         raise UsageError(f"there is no time from {start:,} on and before {stop:,}")
     answers = reader.only(server.asker.whole(_rows(server, body), start, stop))["answers"]
     text = io.StringIO()
-    write_vcd(text, dumped_of(runs_of(answers, "top")), "1 ns", stop)
+    write_vcd(text, dumped_of(runs_of(answers, "top")), _timescale(server.unit), stop)
     return text.getvalue()
+
+
+def _timescale(unit: Unit | None) -> str:
+    """What a dump says of its ticks: the unit of the files, where it is one that VCD can state (IEEE 1364-2005, section 18), else 1 ns."""
+    return str(unit) if unit and unit.count in (1, 10, 100) else "1 ns"
 
 
 def _reload(reader: _Handler, body: dict[str, Any]) -> Message:

@@ -1,10 +1,11 @@
+use Rattle.asked_cells.proofs.Alone.{numbered}
 use Rattle.unit_answers.specs.Stores.{setup_of}
 use Rattle.unit_answers.proofs.Questions.{question-done}
-use Rattle.unit_answers.proofs.Running.{order-numbers, fresh-free}
+use Rattle.unit_answers.proofs.Running.{fresh-free}
 use Rattle.unit_answers.proofs.question.run_question.Goals as goal
 
 pub ask-requires-clause-numbers : goal.ask-requires-clause-numbers
-ask-requires-clause-numbers g c = order-numbers c.in_ok-begun.begun.items c.in_ok-begun.ensures.order
+ask-requires-clause-numbers g c = numbered c.in_ok-begun.begun.items c.in_ok-begun.ensures.order
 
 pub end_all-requires : goal.end_all-requires
 end_all-requires g c = fresh-free g.B.BatchName.batch g.B.BatchName.opening c.in_ok-answered.answered.shards.items c.in_ok-answered.ensures.fresh

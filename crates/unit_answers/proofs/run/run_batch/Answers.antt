@@ -9,7 +9,8 @@ use Rattle.plan_machine.specs.Settle.{entries_in}
 use Rattle.memo_shards.specs.KeptShards.{KeptShard}
 use Rattle.plan_core.specs.InTurn.{AllChildrenCovered, booked_by}
 use Rattle.plan_core.specs.Parts.{shards_in, strands_in, AreInOrder}
-use Rattle.unit_answers.proofs.Running.{strands-new, strands-started, order-numbers, settled-free, has-run}
+use Rattle.asked_cells.proofs.Alone.{numbered}
+use Rattle.unit_answers.proofs.Running.{strands-new, strands-started, settled-free, has-run}
 use Rattle.unit_answers.proofs.run.run_batch.Goals as goal
 
 pub run-requires-clause-new : goal.run-requires-clause-new
@@ -39,7 +40,7 @@ returns-clause-crewed g c =
     (g.C.Crew.is_open c.args.crew.now) c.in_ok-outcomes.ensures c.in_ok-lists.ensures.lists_are (subst (λ ms. sum ran.counts ≡ sum_by booked_by ms) (sym c.into_vec-handed.ensures) e.counted) (e.places ∙ c.in_ok-strands.strands.ok.0) (e.counts ∙ c.in_ok-strands.strands.ok.0) e.filled
 
 pub settle-requires-clause-numbers : goal.settle-requires-clause-numbers
-settle-requires-clause-numbers g c = order-numbers c.into_vec-handed.result.items (subst AreInOrder (sym c.into_vec-handed.ensures) c.in_ok-ran.ensures.order)
+settle-requires-clause-numbers g c = numbered c.into_vec-handed.result.items (subst AreInOrder (sym c.into_vec-handed.ensures) c.in_ok-ran.ensures.order)
 
 pub end_all-requires : goal.end_all-requires
 end_all-requires g c = settled-free g.B.BatchName.batch g.B.BatchName.opening c.into_vec-handed.result.items c.in_ok-outcomes.field-0.shards.items c.in_ok-outcomes.field-0.outcomes.items c.in_ok-outcomes.ensures

@@ -1,12 +1,13 @@
-use Rattle.std.proofs.Common.{◌≡◌, ◌<◌, true, false, [], sym, ap, subst, ◌∙◌, arith}
+use Rattle.std.proofs.Common.{◌≡◌, ◌<◌, true, false, sym, ap, subst, ◌∙◌, arith}
 use Rattle.valid_intervals.specs.declared.Cell.{Cell}
 use Rattle.circuit_meaning.specs.Cells.{span, cell_at}
 use Rattle.circuit_meaning.specs.Cells as cells
 use Rattle.circuit_meaning.specs.Need.{IsRoot, First, Next}
 use Rattle.circuit_meaning.proofs.Cover.{cell-covers}
 use Rattle.batch_meaning.specs.Batches.{window_of}
+use Rattle.strand_meaning.proofs.Wanted.{within-of}
 use Rattle.plan_machine.specs.inner.Settle.{Advances, Reaches, IsCoveredTo}
-use Rattle.plan_machine.proofs.Settle.{stays, then, within, window-step}
+use Rattle.plan_machine.proofs.Settle.{stays, then, window-step}
 use Rattle.plan_core.specs.Parts.{shards_in}
 use Rattle.asked_cells.specs.Asked.{AsksOn, Nothing}
 use Rattle.asked_cells.specs.Memos.{entries_of, is_missing, at_time}
@@ -66,7 +67,7 @@ roots-smaller g c =
     let t = c.in-Some.time in
     let next = c.in-Some.ensures.some in
     let stop = c.roots.invariant.stop in
-    let w = within b c.requires.lawful g.B.BatchName.opening q c.requires.known [] in
+    let w = within-of b c.requires.lawful q c.requires.known in
     let right : c.in-Some-2.cell ≡ cell_at b.circuit (at_time q t) = some-of (λ (x : Cell). x ≡ cell_at b.circuit (at_time q t)) c.in_ok-cell.field-0 c.in-Some-2.cell c.in_ok-cell.ensures.cell c.in-Some-2.is in
     let later : t < (span b.circuit q.signal t).stop = (cell-covers b.circuit c.requires.lawful.circuit t q.signal (omega (arith, next.0, next.1, stop, w))).inside.high in
     let end : c.push.new.self.time ≡ (span b.circuit q.signal t).stop = c.in_ok-push.ensures.time ∙ ap (λ (x : Cell). x.span.stop) right in
