@@ -1,6 +1,6 @@
 -- What is said of a session is said of the words that ask for it.
 use Rattle.std.proofs.Common.{◌≡◌, ℕ, ◌≤◌, ◌<◌, ◌⊎◌, inl, inr, Option, Some, None, Result, Err, Ok, refl, subst, ap, option_map, ◌∙◌, sym, arith, List, length}
-use Rattle.owned_text.specs.Made.{Made}
+use Rattle.texts.specs.Made.{Made}
 use Rattle.backsim_io.specs.FilesInMemory.{Places}
 use Rattle.backsim_io.specs.State.{FilesState, SourceState}
 use Rattle.circuit_files.specs.Files.{netlist_of, first_two, design_of_files}

@@ -3,7 +3,7 @@ use Rattle.std.proofs.Common.{◌≡◌, ℕ, List, [], ◌++◌, take, drop, Op
 use Rattle.std.proofs.lemmas.List.{take-append-drop}
 use Rattle.std.specs.Prelude.{⊤, ◌≤◌}
 use Rattle.std.specs.Io.KnownBytes.{IsAtEnd}
-use Rattle.owned_text.specs.Made.{Made}
+use Rattle.texts.specs.Made.{Made}
 use Rattle.backsim_io.specs.Counts.{Grows, GrowsByPrefix, Stays}
 use Rattle.backsim_io.specs.FilesInMemory.{SameMade}
 use Rattle.circuit_files.specs.Files.{design_of_files}

@@ -2,7 +2,7 @@
 use Rattle.std.proofs.Common.{◌≡◌, ℕ, ◌≤◌, ◌<◌, Bool, true, false, ◌&&◌, nat_le, List, [], ◌∷◌, length, Option, Some, None, sym, arith, lit≤, cond, is_some, ◌||◌}
 use Rattle.std.proofs.lemmas.Bool.{and_parts, leb-true}
 use Rattle.std.proofs.lemmas.Option.{cond_some, option_and_then_some, none-some, same_Some}
-use Rattle.text_rules.specs.Text.{is_number, decimal_value}
+use Rattle.texts.specs.Text.{is_number, decimal_value}
 use Rattle.command_words.specs.Words.{Text, Workers, Shards, Cells, Work, Said, Form, Session, Workload, nothing_said, read, number_in, number_at, number_or, session_of, workload_of, first_form, form_by, form_of, words_of}
 
 -- as many as a session may have

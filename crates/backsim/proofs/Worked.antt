@@ -1,7 +1,7 @@
 -- What a run of the workload comes to.
 use Rattle.std.proofs.Common.{◌≡◌, ℕ, ◌+◌, inl, inr, List, [], ◌∷◌, All, refl, ap, subst, sym, lit≤, ◌∙◌}
 use Rattle.std.proofs.lemmas.List.Elements.{All-head}
-use Rattle.owned_text.specs.Made.{Made}
+use Rattle.texts.specs.Made.{Made}
 use Rattle.backsim_io.specs.Counts.{Rose, Grows}
 use Rattle.backsim_io.specs.FilesInMemory.{SameMade, Places, list_without}
 use Rattle.backsim_io.specs.State.{FilesState, SourceState, FileFault as FileFaultOf}

@@ -1,6 +1,6 @@
 -- What stands where a fault or a lack of memory ends a session.
 use Rattle.std.specs.Prelude.{◌≡◌, ◌<◌, ◌+◌, ◌⊎◌, ⊤, ℕ, List, [], ◌∷◌, All, Option, Some}
-use Rattle.owned_text.specs.Made.{Made}
+use Rattle.texts.specs.Made.{Made}
 use Rattle.backsim_io.specs.Counts.{GrowsByPrefix}
 use Rattle.backsim_io.specs.State.{FilesState}
 use Rattle.session_meaning.specs.Session.{Setup}

@@ -1,6 +1,6 @@
 -- What is refused, and what is written of it.
 use Rattle.std.specs.Prelude.{◌≡◌, ◌≤◌, ◌<◌, ◌⊎◌, ℕ, List, ◌++◌, Some, Err}
-use Rattle.owned_text.specs.Made.{Made}
+use Rattle.texts.specs.Made.{Made}
 use Rattle.backsim_io.specs.Counts.{Grows, GrowsByPrefix}
 use Rattle.backsim_io.specs.FilesInMemory.{SameMade}
 use Rattle.circuit_files.specs.Files.{design_of_files}

@@ -1,6 +1,6 @@
 -- What is seen of the outside at one time.
 use Rattle.std.specs.Prelude.{◌≡◌, ℕ, List, Option}
-use Rattle.owned_text.specs.Made.{Made}
+use Rattle.texts.specs.Made.{Made}
 use Rattle.backsim_io.specs.Counts.{Stays}
 use Rattle.backsim_io.specs.FilesInMemory.{SameMade}
 use Rattle.backsim_io.specs.State.{FilesState, SourceState}

@@ -36,11 +36,11 @@ mod work;
 
 use crate::status::Status;
 use backsim_io::{RealFiles, RealSink, RealSource, words_after_name};
-use owned_text::OutOfMemory;
 use std::process::ExitCode;
 use std::sync::Wait;
 use std::thread::Threads;
 use std::{env, io};
+use texts::OutOfMemory;
 use worker_gate::OpenGate;
 
 /// Serves the words of the process over the system's files and streams. The workers run on the threads of the handle.

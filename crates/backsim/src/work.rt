@@ -17,7 +17,6 @@ ghost use Rattle.backsim.specs.declared.work.LineStop.TheVariants.{OutOfMemory a
 use crate::status::{NamedFile, Output, Status};
 use backsim_io::{Files, Sink, write_all};
 use gate_values::Value;
-use owned_text::OutOfMemory;
 use query_lines::script_units_are_fit;
 use reply_lines::{Outcome, Reply};
 use session_loop::{JournalHalt, Service, finish_journal, serve_work};
@@ -25,6 +24,7 @@ use std::alloc::{AllocError, Global};
 use std::mem;
 use std::sync::Wait;
 use std::thread::Threads;
+use texts::OutOfMemory;
 use unit_answers::Sizes;
 use window_walks::Run;
 use worker_gate::{Gate, Workers};

@@ -10,11 +10,19 @@
 //! ```
 #![tactic(auto)]
 
+mod checking;
+mod judging;
+mod lines;
+mod reading;
+mod status;
+
+pub use checking::check;
+pub use status::CheckStatus;
+
 use backsim_io::{RealFiles, RealSink, words_after_name};
-use owned_text::OutOfMemory;
-use proof_check::{CheckStatus, check};
 use std::process::ExitCode;
 use std::{env, io};
+use texts::OutOfMemory;
 
 /// Checks the proof that the words of the process name, over the system's files and standard output.
 fn run(rt: &HostRuntime) -> Result<CheckStatus, OutOfMemory> {

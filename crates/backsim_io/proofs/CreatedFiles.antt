@@ -1,7 +1,7 @@
 -- A write into one of the created files.
 use Rattle.std.proofs.Common.{◌≡◌, ℕ, zero, suc, ◌<◌, List, [], ◌∷◌, ◌++◌, length, get_or, set, arith, ap, ◌∙◌, Vec, Global, vec_len, vec_capacity, ◌+◌, ◌≤◌, subst, sym, Bool, true, false, cond}
 use Rattle.std.specs.Bool.{OnTrue, OnFalse}
-use Rattle.owned_text.specs.Made.{Made}
+use Rattle.texts.specs.Made.{Made}
 use Rattle.backsim_io.specs.FilesInMemory.{files_with}
 use Rattle.backsim_io.specs.inner.FilesInMemory.{files_of, HasRoomAt}
 

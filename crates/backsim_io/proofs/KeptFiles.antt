@@ -2,7 +2,7 @@
 use Rattle.std.proofs.Common.{◌≡◌, ℕ, zero, suc, ◌<◌, ◌≤◌, List, [], ◌∷◌, ◌++◌, length, map, take, get_or, set, arith, refl, ap, ◌∙◌, sym, Some, None, option_map, slice_get, All, subst, length-append}
 use Rattle.std.proofs.Math.Nat.{sub_self}
 use Rattle.std.proofs.lemmas.List.{get_or_append_left, get_or-append_right, map-append}
-use Rattle.owned_text.specs.Made.{Made}
+use Rattle.texts.specs.Made.{Made}
 use Rattle.backsim_io.specs.FilesInMemory.{files_with}
 use Rattle.backsim_io.specs.KeptBytes.{kept_more}
 use Rattle.backsim_io.specs.inner.SureFiles.{KeptFile, IsBlank, kept_file, front_of}

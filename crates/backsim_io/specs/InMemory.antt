@@ -1,6 +1,6 @@
 -- The state of the objects in memory: their content and faults, and which of their calls fail.
 use Rattle.std.specs.Prelude.{ℕ, ◌+◌, ◌≤◌, ◌≡◌, List, Some, drop, vec_len, vec_capacity}
-use Rattle.owned_text.specs.Made.{Made}
+use Rattle.texts.specs.Made.{Made}
 use Rattle.backsim_io.specs.Calls.{CallsState}
 use Rattle.backsim_io.specs.FilesInMemory.{bytes_under}
 use Rattle.backsim_io.specs.State.{SourceState, FilesState}

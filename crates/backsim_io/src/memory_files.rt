@@ -4,7 +4,7 @@ ghost use Rattle.std.specs.Io.{ReadsAtMost, WritesAtMost};
 ghost use Rattle.std.specs.Io.KnownBytes.{IsAtEnd};
 ghost use Rattle.std.specs.Option.{option_copied};
 ghost use Rattle.std.specs.Bool.{OnTrue, OnFalse};
-ghost use Rattle.owned_text.specs.Made.{Made};
+ghost use Rattle.texts.specs.Made.{Made};
 ghost use Rattle.backsim_io.specs.Calls.{is_listed, after_call};
 ghost use Rattle.backsim_io.specs.FilesInMemory.{Places, FileWrites, SameMade, CreatesIn, bytes_under, files_with, list_without};
 ghost use Rattle.backsim_io.specs.State.{fresh_files, FileFault, ReadFault, WriteFault, Reads};
@@ -15,8 +15,8 @@ use crate::faults::with_fault;
 use crate::slots::Slots;
 use crate::stored::StoredFiles;
 use crate::{Failed, Files};
-use owned_text::Text;
 use std::alloc::Global;
+use texts::Text;
 
 /// Files in memory, some of whose calls fail. One count numbers the calls of all five kinds.
 #[derive(Drop)]

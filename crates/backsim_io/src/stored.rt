@@ -3,7 +3,7 @@ ghost use Rattle.backsim_io.specs.FilesInMemory.{bytes_under};
 ghost use Rattle.backsim_io.specs.inner.FilesInMemory.{bytes_at};
 
 use crate::copies::copy_next;
-use owned_text::Text;
+use texts::Text;
 
 /// Files in memory, by name. One of them is being read.
 #[derive(Drop)]

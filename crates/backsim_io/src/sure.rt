@@ -4,9 +4,9 @@ ghost use Rattle.backsim_io.specs.KeptBytes.{KeptBytes, kept_more};
 
 use crate::copies::copy_next;
 use crate::{Failed, Sink, Source};
-use owned_text::OutOfMemory;
 use std::alloc::Global;
 use std::marker::Model;
+use texts::OutOfMemory;
 
 /// A source in memory that never fails.
 #[derive(Drop)]

@@ -1,7 +1,7 @@
 //! Files in memory that never fail.
 ghost use Rattle.std.specs.Prelude.{◌≡◌, List, [], Some, map, take, drop, length, All, option_map, slice_get, vec_len, vec_capacity, IsNone, IfOk, ◌↔◌, ◌+◌, ◌<◌, ◌≤◌, true};
 ghost use Rattle.std.specs.Option.{option_copied};
-ghost use Rattle.owned_text.specs.Made.{Made};
+ghost use Rattle.texts.specs.Made.{Made};
 ghost use Rattle.backsim_io.specs.FilesInMemory.{Places};
 ghost use Rattle.backsim_io.specs.inner.FilesInMemory.{bytes_at};
 ghost use Rattle.backsim_io.specs.KeptBytes.{kept_more};
@@ -12,9 +12,9 @@ ghost use Rattle.backsim_io.specs.SureFiles.{bytes_or_empty};
 use crate::slots::Slots;
 use crate::stored::StoredFiles;
 use crate::{Failed, Files, SureSink};
-use owned_text::{OutOfMemory, Text};
 use std::alloc::Global;
 use std::marker::Model;
+use texts::{OutOfMemory, Text};
 
 /// The greatest number of created files.
 const FILES: usize = 4;

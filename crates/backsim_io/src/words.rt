@@ -4,9 +4,9 @@ ghost use Rattle.std.specs.Prelude.{◌≡◌, [], drop, IfOk, IfErr, IsErr, IsO
 ghost use Rattle.std.specs.IoError.{error_kind};
 ghost use Rattle.std.specs.declared.io.ErrorKind.TheVariants.{InvalidData};
 
-use owned_text::OutOfMemory;
 use std::alloc::Global;
 use std::io;
+use texts::OutOfMemory;
 
 /// The words that std gives, without the first, which is the program's name. If a word is not valid text, the list is empty: no
 /// program accepts an empty list, so it reports a wrong form.

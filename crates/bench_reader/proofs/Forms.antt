@@ -2,7 +2,7 @@
 use Rattle.std.proofs.Common.{◌≡◌, ℕ, Bool, true, false, List, [], ◌∷◌, ◌++◌, Option, Some, None, refl, sym, ap, ◌∙◌, append_assoc}
 use Rattle.std.specs.Borrow.{Bor}
 use Rattle.std.proofs.lemmas.List.{map-append}
-use Rattle.text_rules.specs.Text.{is_name, line_tokens}
+use Rattle.texts.specs.Text.{is_name, line_tokens}
 use Rattle.bench_reader.specs.Lines.{is_the, with_front, pin_list, by_tokens, line_of}
 use Rattle.bench_reader.specs.Views.{each_now}
 use Rattle.bench_reader.proofs.Places.{same_bytes, same_names}

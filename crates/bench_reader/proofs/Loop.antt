@@ -1,10 +1,10 @@
 -- What all lines say.
 use Rattle.std.proofs.Common.{◌≡◌, ℕ, List, [], ◌∷◌, ◌++◌, map, Some, None, Result, Ok, Err, refl, sym, ap, subst, ◌∙◌, inl, inr, ◌⊎◌}
 use Rattle.std.specs.Prelude.{OnOk}
-use Rattle.text_rules.specs.Text.{lines}
-use Rattle.line_faults.specs.declared.causes.LineFault.{LineFault}
-use Rattle.line_faults.specs.Faults.{at_line, first_fault}
-use Rattle.line_faults.specs.Reading.{Steps}
+use Rattle.texts.specs.Text.{lines}
+use Rattle.texts.specs.declared.line_faults.causes.LineFault.{LineFault}
+use Rattle.texts.specs.line_faults.Faults.{at_line, first_fault}
+use Rattle.texts.specs.line_faults.Reading.{Steps}
 use Rattle.bench_reader.specs.declared.fault.BenchCause.{BenchCause}
 use Rattle.bench_reader.specs.declared.fault.BenchCause.TheVariants.{Undefined, OutOfMemory}
 use Rattle.bench_reader.specs.declared.reader.Reader.{Reader}

@@ -4,8 +4,8 @@ use Rattle.std.specs.Prelude.{Result, Ok, Err, OnErr}
 use Rattle.std.specs.List.{slice_get}
 use Rattle.std.proofs.lemmas.List.{append-nil, map-append, take-append-le, drop-append-le, length-drop, length-map, take_at, drop_at}
 use Rattle.std.proofs.lemmas.List.Elements.{All-nil, All-cons, All-head, All-tail, All-get_or, All-append, All-weaker}
-use Rattle.bench_reader.specs.declared.texts.Place.{Place}
-use Rattle.bench_reader.specs.declared.texts.Place.TheVariants.{Short, Long}
+use Rattle.bench_reader.specs.declared.text_list.Place.{Place}
+use Rattle.bench_reader.specs.declared.text_list.Place.TheVariants.{Short, Long}
 use Rattle.bench_reader.specs.inner.TextLists.{text_at, IsPlace, LieWithin}
 
 -- more bytes behind a text

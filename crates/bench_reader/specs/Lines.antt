@@ -2,7 +2,7 @@
 use Rattle.std.specs.Prelude.{ℕ, Bool, ◌&&◌, List, [], ◌∷◌, Option, Some, None, if◌then◌else◌, codes}
 use Rattle.std.specs.Str.{bytes_eq}
 use Rattle.gate_values.specs.Spelling.{spells}
-use Rattle.text_rules.specs.Text.{content, tokens, is_name}
+use Rattle.texts.specs.Text.{content, tokens, is_name}
 
 pub data Line : Type 0 where
   Blank : Line

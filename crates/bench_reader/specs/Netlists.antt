@@ -6,11 +6,11 @@ use Rattle.indexmap.specs.IndexSet.{insert_all}
 use Rattle.gate_values.specs.declared.Kind.{Kind}
 use Rattle.gate_values.specs.Gates.{allows}
 use Rattle.gate_values.specs.Spelling.{kind_of_word}
-use Rattle.text_rules.specs.Text.{lines}
+use Rattle.texts.specs.Text.{lines}
 use Rattle.bench_reader.specs.declared.fault.BenchCause.{BenchCause}
 use Rattle.bench_reader.specs.declared.fault.BenchCause.TheVariants.{Syntax, UnknownKind, PinCount, Twice, Undefined, NameLong, TooMany, OutOfMemory}
-use Rattle.line_faults.specs.declared.causes.LineFault.{LineFault}
-use Rattle.line_faults.specs.Faults.{at_line, at_no_line, first_fault, unless_fault}
+use Rattle.texts.specs.declared.line_faults.causes.LineFault.{LineFault}
+use Rattle.texts.specs.line_faults.Faults.{at_line, at_no_line, first_fault, unless_fault}
 use Rattle.bench_reader.specs.Lines.{Line, Blank, Malformed, Input, Output, Gate, line_of}
 
 -- the names of a line, from left to right

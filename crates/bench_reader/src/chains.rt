@@ -5,7 +5,7 @@ ghost use Rattle.std.specs.Str.{bytes_eq};
 ghost use Rattle.bench_reader.specs.inner.Chains.{AreChained, BeginsChain, IsEachOnce, IsNowhere, HasNumber};
 ghost use Rattle.bench_reader.specs.inner.Chains as chains;
 
-use crate::texts::TextList;
+use crate::text_list::TextList;
 use std::alloc::{AllocError, Global};
 
 /// Names by the buckets of their hashes. A name's entry here is its number, from 1 on; 0 is none.

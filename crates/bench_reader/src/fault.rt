@@ -4,7 +4,7 @@ ghost use Rattle.std.specs.Prelude.{◌≡◌};
 ghost use Rattle.bench_reader.specs.Causes.{cause_number};
 ghost use Rattle.bench_reader.specs.declared.fault.BenchCause.TheVariants.{OutOfMemory};
 
-use line_faults::{LineCause, LineFault};
+use texts::line_faults::{LineCause, LineFault};
 
 /// What is wrong with a netlist.
 #[derive(Clone, Copy, Debug, PartialEq, Eq)]

@@ -4,13 +4,13 @@ ghost use Rattle.std.specs.Prelude.{◌≡◌, List, ℕ, length, false, IfOk, �
 ghost use Rattle.std.specs.Borrow.{Bor};
 ghost use Rattle.bench_reader.specs.Lines as form;
 ghost use Rattle.gate_values.specs.Spelling.{spells};
-ghost use Rattle.text_rules.specs.Text.{line_tokens, starts_with_name};
+ghost use Rattle.texts.specs.Text.{line_tokens, starts_with_name};
 ghost use Rattle.bench_reader.specs.Views.{view};
 ghost use Rattle.bench_reader.specs.inner.Views.{names_if, is_close};
 
 use smallvec::SmallVec;
 use std::alloc::AllocError;
-use text_rules::{has_no_token, next_mark, next_name};
+use texts::{has_no_token, next_mark, next_name};
 
 /// A line, read by its form. The kind of a gate is any name, and its pins are kept apart.
 #[derive(Clone, Copy)]

@@ -7,7 +7,7 @@ ghost use Rattle.bench_reader.specs.inner.Index.{HasRoom, IsIndex};
 
 use crate::chains::Chains;
 use crate::keyed::Keyed;
-use crate::texts::TextList;
+use crate::text_list::TextList;
 use std::alloc::{AllocError, Global};
 
 /// By what a name is found: by the bucket of a cheap hash, or by a strong hash once a bucket has too many names.

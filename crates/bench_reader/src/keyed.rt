@@ -6,7 +6,7 @@ ghost use Rattle.bench_reader.specs.inner.Keyed.{AreKeyed, IsEachKeyed};
 
 use crate::chains::seek;
 use crate::sip::sip_hash;
-use crate::texts::TextList;
+use crate::text_list::TextList;
 use std::alloc::{AllocError, Global};
 use std::collections::BTreeMap;
 use std::mem;

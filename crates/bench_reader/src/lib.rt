@@ -67,7 +67,7 @@ mod netlist;
 mod outputs;
 mod reader;
 mod sip;
-mod texts;
+mod text_list;
 
 pub use fault::{BenchCause, BenchFault};
 pub use netlist::{Netlist, Row};

@@ -10,7 +10,7 @@ ghost use Rattle.bench_reader.specs.inner.Chains as chains;
 use crate::chains::{Chains, hash_of};
 use crate::fault::BenchFault;
 use crate::index::Index;
-use crate::texts::TextList;
+use crate::text_list::TextList;
 use std::alloc::{AllocError, Global};
 use std::marker::Model;
 

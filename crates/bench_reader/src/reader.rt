@@ -9,7 +9,7 @@ ghost use Rattle.bench_reader.specs.Netlists as netlists;
 ghost use Rattle.bench_reader.specs.inner.Reading.{IsRead, IsSoundReading, Takes, CountsPins, padded_rows, first_missing, is_gate_at, is_defined_at};
 ghost use Rattle.bench_reader.specs.Views.{view, each_now};
 ghost use Rattle.bench_reader.specs.declared.fault.BenchCause.TheVariants.{OutOfMemory};
-ghost use Rattle.line_faults.specs.Faults.{Answers};
+ghost use Rattle.texts.specs.line_faults.Faults.{Answers};
 
 use crate::fault::{BenchCause, BenchFault};
 use crate::form::{Form, form_of};
@@ -17,9 +17,9 @@ use crate::names::Names;
 use crate::netlist::{Definition, Netlist};
 use crate::outputs::Outputs;
 use gate_values::Kind;
-use line_faults::{LineReader, fault, read_lines};
 use smallvec::SmallVec;
 use std::alloc::Global;
+use texts::line_faults::{LineReader, fault, read_lines};
 
 /// What the lines so far say: the names in the order of first appearance, a row for each, the pins
 /// of all gates in the order of the text, and the outputs.

@@ -4,8 +4,8 @@ ghost use Rattle.std.specs.Prelude.{◌≡◌, false, ◌<◌, ◌≤◌, ◌&&�
 ghost use Rattle.cell_store.specs.inner.Heads.{head_at, head_for, head_on, local_of, has_map, is_own, no_head, HasHead, HasPlace};
 ghost use Rattle.cell_store.specs.declared.heads.More.TheVariants.{Common};
 
-use owned_text::OutOfMemory;
 use std::alloc::Global;
+use texts::OutOfMemory;
 
 // The number of heads of a page, and the greatest number of pages.
 const PAGE: u32 = 64;

@@ -18,9 +18,9 @@ use crate::heads::{Head, Heads, More, no_head};
 use crate::maps::Maps;
 use crate::signal_cells::SignalCells;
 use gate_values::Value;
-use owned_text::OutOfMemory;
 use std::alloc::Global;
 use std::marker::Model;
+use texts::OutOfMemory;
 use valid_intervals::Point;
 
 // The most nodes of a list.

@@ -13,9 +13,9 @@ use crate::Key;
 use crate::heads::{Head, More};
 use crate::index::Place;
 use crate::signal_cells::SignalCells;
-use owned_text::OutOfMemory;
 use std::alloc::Global;
 use std::collections::BTreeMap;
+use texts::OutOfMemory;
 use valid_intervals::Point;
 
 // Own maps have numbers of 16 bits.

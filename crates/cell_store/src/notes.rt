@@ -3,9 +3,9 @@ ghost use Rattle.std.specs.Prelude.{◌≡◌, ℕ, ◌+◌, ◌<◌, ◌≤◌,
 ghost use Rattle.cell_store.specs.inner.Notes.{Slots, after_notes, noted_slots, with_note};
 
 use crate::recent::Order;
-use owned_text::OutOfMemory;
 use std::alloc::Global;
 use std::marker::Model;
+use texts::OutOfMemory;
 
 /// Slots that were used, each as often as it was, the earliest first. Of several notes of a slot only the last counts. There is room for
 /// two notes of each slot, which is taken with the slot. So a note takes no memory: where the room is full, only the last note of each

@@ -9,11 +9,11 @@ ghost use Rattle.lru.specs.LruCache.{lru_cache, last_entry, promoted, put_entrie
 use crate::notes::Notes;
 use crate::slots::SlotHasher;
 use lru::LruCache;
-use owned_text::OutOfMemory;
 use std::alloc::Global;
 use std::hash::BuildHasherDefault;
 use std::marker::Model;
 use std::num::NonZeroUsize;
+use texts::OutOfMemory;
 use valid_intervals::SignalCell;
 
 /// The slots, which are small numbers, in the order of their use.

@@ -9,10 +9,10 @@ ghost use Rattle.std.specs.Ordering.{nat_cmp};
 ghost use Rattle.cell_store.specs.inner.SignalCells.{AreInOrder, HaveBegun, IsLastBegun, NoneHasBegun, kept_at};
 
 use crate::index::Place;
-use owned_text::OutOfMemory;
 use std::alloc::Global;
 use std::collections::BTreeMap;
 use std::marker::Model;
+use texts::OutOfMemory;
 
 // The most cells of a list.
 const MOST_FEW: usize = 512;

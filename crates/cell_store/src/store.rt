@@ -12,10 +12,10 @@ ghost use Rattle.lru.specs.LruCache.{last_entry as last_of};
 use crate::index::{CellIndex, Place};
 use crate::recent::RecentCells;
 use crate::{Key, Put};
-use owned_text::OutOfMemory;
 use std::alloc::Global;
 use std::marker::Model;
 use std::num::NonZeroUsize;
+use texts::OutOfMemory;
 use valid_intervals::{Cell, Point, SignalCell, Span};
 
 /// The greatest capacity of a store.

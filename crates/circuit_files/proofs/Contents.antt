@@ -1,8 +1,8 @@
 -- The content of one file, and what is refused in its place.
 use Rattle.std.proofs.Common.{◌≡◌, ℕ, ◌+◌, ◌≤◌, ◌⊎◌, inl, inr, List, Some, Result, Ok, Err, IsErrAnd, refl, sym, ap, subst, ◌∙◌}
 use Rattle.backsim_io.specs.State.{FilesState}
-use Rattle.line_faults.specs.Faults.{at_no_line}
-use Rattle.line_faults.specs.declared.causes.LineFault.{LineFault}
+use Rattle.texts.specs.line_faults.Faults.{at_no_line}
+use Rattle.texts.specs.declared.line_faults.causes.LineFault.{LineFault}
 use Rattle.bench_reader.specs.Netlists.{bench_of}
 use Rattle.timing_file.specs.Timing.{timing_of}
 use Rattle.stimulus_file.specs.Stimulus.{stimulus_of}

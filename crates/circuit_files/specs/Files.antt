@@ -1,6 +1,6 @@
 -- The design of three files, or the refusal.
 use Rattle.std.specs.Prelude.{ℕ, ◌+◌, nat_le, List, length, Result, Ok, Err, if◌then◌else◌}
-use Rattle.line_faults.specs.declared.causes.LineFault.{LineFault}
+use Rattle.texts.specs.declared.line_faults.causes.LineFault.{LineFault}
 use Rattle.bench_reader.specs.Netlists as netlists
 use Rattle.bench_reader.specs.Netlists.{bench_of}
 use Rattle.bench_reader.specs.Causes.{cause_number}

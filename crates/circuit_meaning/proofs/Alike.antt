@@ -9,7 +9,7 @@ use Rattle.gate_values.specs.Gates.{gate_value, decides}
 use Rattle.gate_values.proofs.Looked.{cut_alike}
 use Rattle.circuit_meaning.specs.Circuit.{Setting, Pin, FlipFlop, Driver, Input, Gate, Flop, Circuit, driver, IsCircuit, IsDriver, read_by}
 use Rattle.circuit_meaning.specs.Forward.{value, value_from, seen_value, flop_value}
-use Rattle.flip_flops.specs.Edges.{shown_edge}
+use Rattle.circuit_meaning.specs.Edges.{shown_edge}
 use Rattle.circuit_meaning.specs.Cells.{span, span_from, gate_span, pin_span, looked_pins, least_delay}
 use Rattle.valid_intervals.specs.Spans.{moved_span}
 use Rattle.circuit_meaning.specs.Base.{base_from, base_answer}
@@ -19,7 +19,7 @@ use Rattle.circuit_meaning.specs.Laws.{Pins, look}
 use Rattle.circuit_meaning.specs.Forced.{IsAlike, IsFree, forced_circuit}
 use Rattle.circuit_meaning.proofs.Table.{at_all_times}
 use Rattle.circuit_meaning.proofs.Equations.{value_is, span_is, driver_fits, map_same, all_imply, all_cut}
-use Rattle.flip_flops.proofs.EdgeLemmas.{shown_edge-le}
+use Rattle.circuit_meaning.proofs.EdgeLemmas.{shown_edge-le}
 use Rattle.circuit_meaning.proofs.Steady.{seen-early, seen-late, pin_span-early, pin_span-late, both}
 
 -- the signals of a gate's pins

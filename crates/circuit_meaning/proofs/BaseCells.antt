@@ -8,7 +8,7 @@ use Rattle.gate_values.specs.declared.Kind.{Kind}
 use Rattle.gate_values.specs.Gates.{gate_value, is_unknown}
 use Rattle.gate_values.proofs.Pins.{allows-some}
 use Rattle.gate_values.proofs.Unknown.{gate_value-unknown}
-use Rattle.flip_flops.specs.Edges.{shown_edge, flop_span}
+use Rattle.circuit_meaning.specs.Edges.{shown_edge, flop_span}
 use Rattle.valid_intervals.specs.Spans.{from_to}
 use Rattle.valid_intervals.specs.declared.Cell.{Cell}
 use Rattle.circuit_meaning.specs.Circuit.{Pin, FlipFlop, Driver, Input, Gate, Flop, Circuit, driver, IsCircuit, IsDriver}

@@ -5,7 +5,7 @@ use Rattle.gate_values.specs.declared.Value.{Value}
 use Rattle.gate_values.specs.declared.Value.TheVariants.{Z}
 use Rattle.gate_values.specs.declared.Kind.TheVariants.{Dff}
 use Rattle.gate_values.proofs.Unknown.{gate_value-not_z}
-use Rattle.flip_flops.specs.Edges.{shown_edge}
+use Rattle.circuit_meaning.specs.Edges.{shown_edge}
 use Rattle.circuit_meaning.specs.declared.Window.{Window}
 use Rattle.circuit_meaning.specs.Circuit.{FlipFlop, Driver, Input, Gate, Flop, Circuit, IsCircuit, IsDriver, driver, read_by}
 use Rattle.circuit_meaning.specs.Forward.{value, value_from, seen_value, flop_value}

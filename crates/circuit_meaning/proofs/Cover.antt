@@ -6,15 +6,15 @@ use Rattle.std.proofs.lemmas.List.Elements.{recursion_from_All}
 use Rattle.gate_values.specs.declared.Kind.{Kind}
 use Rattle.gate_values.specs.Gates.{decides}
 use Rattle.circuit_meaning.specs.Circuit.{Pin, Driver, Input, Gate, Flop, Circuit, driver, IsCircuit, IsDriver}
-use Rattle.flip_flops.specs.declared.Clock.{Clock}
+use Rattle.circuit_meaning.specs.declared.flip_flop.Clock.{Clock}
 use Rattle.circuit_meaning.specs.Forward.{value, seen_value}
-use Rattle.flip_flops.specs.Edges.{shown_edge, flop_span}
+use Rattle.circuit_meaning.specs.Edges.{shown_edge, flop_span}
 use Rattle.circuit_meaning.specs.Cells.{span, span_from, pin_span, looked_pins, least_delay}
 use Rattle.valid_intervals.specs.Spans.{Span, IsIn, from_to}
 use Rattle.circuit_meaning.specs.Laws.{IsCovered}
 use Rattle.circuit_meaning.proofs.Table.{at_all_times}
 use Rattle.circuit_meaning.proofs.Equations.{span_is, driver_fits, all_imply, all_cut}
-use Rattle.flip_flops.proofs.EdgeLemmas.{last_edge-le, edge-none, edge-next}
+use Rattle.circuit_meaning.proofs.EdgeLemmas.{last_edge-le, edge-none, edge-next}
 use Rattle.circuit_meaning.proofs.Inputs.{start-le, next-le, next-above}
 use Rattle.circuit_meaning.proofs.Steady.{in_meet, meet-stop, map_all, pin_span-early, pin_span-late, gate_span-early, gate_span-late}
 

@@ -10,8 +10,8 @@ use Rattle.gate_values.specs.declared.Kind.TheVariants.{Dff}
 use Rattle.gate_values.specs.Gates.{gate_value, decides, up_to_first}
 use Rattle.circuit_meaning.specs.Circuit.{Pin, FlipFlop, Driver, Input, Gate, Flop, Circuit, driver, IsCircuit, IsDriver}
 use Rattle.circuit_meaning.specs.Forward.{rows_below, row_at, last_setting, seen_value, flop_value, value_from, entry, next_row, value}
-use Rattle.flip_flops.specs.Edges.{shown_edge}
-use Rattle.flip_flops.proofs.EdgeLemmas.{shown_edge-le}
+use Rattle.circuit_meaning.specs.Edges.{shown_edge}
+use Rattle.circuit_meaning.proofs.EdgeLemmas.{shown_edge-le}
 use Rattle.circuit_meaning.specs.Cells.{pin_span, span_from, span_entry, next_spans, span, looked_pins, next_setting, least_delay, gate_span}
 use Rattle.valid_intervals.specs.Spans.{Span, from_to, moved_span}
 use Rattle.circuit_meaning.proofs.Table.{length-rows_below, get_or-rows_below}

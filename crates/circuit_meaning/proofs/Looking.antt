@@ -9,7 +9,7 @@ use Rattle.gate_values.specs.declared.Kind.TheVariants.{Dff}
 use Rattle.gate_values.specs.Gates.{gate_value, decides, up_to_first}
 use Rattle.gate_values.proofs.Looked.{gate_value-looked, cut_alike, map-up_to_first}
 use Rattle.valid_intervals.specs.declared.Point.{Point}
-use Rattle.flip_flops.specs.Edges.{shown_edge}
+use Rattle.circuit_meaning.specs.Edges.{shown_edge}
 use Rattle.circuit_meaning.specs.declared.Pin.{Pin}
 use Rattle.circuit_meaning.specs.Circuit.{Circuit, Driver, Input, Gate, Flop, driver, IsCircuit}
 use Rattle.circuit_meaning.specs.Forward.{value, value_from, flop_value, seen_value}

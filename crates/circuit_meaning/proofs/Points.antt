@@ -7,12 +7,12 @@ use Rattle.gate_values.specs.declared.Kind.{Kind}
 use Rattle.gate_values.specs.Gates.{decides}
 use Rattle.circuit_meaning.specs.Circuit.{Pin, FlipFlop, Driver, Input, Gate, Flop, Circuit, driver, read_by, IsCircuit, IsDriver}
 use Rattle.circuit_meaning.specs.Forward.{seen_value, value}
-use Rattle.flip_flops.specs.Edges.{shown_edge}
+use Rattle.circuit_meaning.specs.Edges.{shown_edge}
 use Rattle.circuit_meaning.specs.Cells.{looked_pins}
 use Rattle.circuit_meaning.specs.Need.{Window, flop_child, children_from, children, IsNeeded, Root, Child, IsInCone, Itself, Reads}
 use Rattle.valid_intervals.specs.declared.Point.{Point}
 use Rattle.circuit_meaning.proofs.Equations.{driver_fits, all_cut, all_imply}
-use Rattle.flip_flops.proofs.EdgeLemmas.{shown_edge-le}
+use Rattle.circuit_meaning.proofs.EdgeLemmas.{shown_edge-le}
 
 -- the points of the pins that read no time before 0
 module _ (t : ℕ) (P : Point → Type 0) where

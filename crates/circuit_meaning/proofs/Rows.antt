@@ -7,7 +7,7 @@ use Rattle.gate_values.specs.declared.Kind.TheVariants.{And, Nand, Or, Nor, Xor,
 use Rattle.circuit_meaning.specs.Circuit.{Setting, Pin, Driver, Input, Gate, Flop, Circuit}
 use Rattle.circuit_meaning.specs.Forward.{rows_below, row_at, last_setting, value, wave}
 use Rattle.circuit_meaning.specs.declared.Run.{Run}
-use Rattle.flip_flops.specs.Edges.{last_edge}
+use Rattle.circuit_meaning.specs.Edges.{last_edge}
 use Rattle.valid_intervals.specs.declared.Point.{Point}
 use Rattle.circuit_meaning.specs.Need.{children}
 use Rattle.circuit_meaning.specs.Base.{base_answer, cell_with}

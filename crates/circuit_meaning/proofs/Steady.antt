@@ -9,16 +9,16 @@ use Rattle.gate_values.specs.declared.Kind.{Kind}
 use Rattle.gate_values.specs.Gates.{gate_value, decides}
 use Rattle.gate_values.proofs.Looked.{gate_value-looked, cut_alike, map-up_to_first}
 use Rattle.circuit_meaning.specs.Circuit.{Pin, Driver, Input, Gate, Flop, Circuit, driver, IsCircuit, IsDriver}
-use Rattle.flip_flops.specs.declared.Clock.{Clock}
+use Rattle.circuit_meaning.specs.declared.flip_flop.Clock.{Clock}
 use Rattle.circuit_meaning.specs.Forward.{value, value_from, seen_value, flop_value, input_value}
-use Rattle.flip_flops.specs.Edges.{shown_edge, flop_span}
+use Rattle.circuit_meaning.specs.Edges.{shown_edge, flop_span}
 use Rattle.circuit_meaning.specs.Cells.{span, span_from, gate_span, pin_span, looked_pins, least_delay}
 use Rattle.valid_intervals.specs.Spans.{Span, IsIn, from_to, meet, moved_span}
 use Rattle.circuit_meaning.specs.Laws.{Pins, Edge, look, IsSame}
 use Rattle.circuit_meaning.proofs.Table.{at_all_times}
 use Rattle.circuit_meaning.proofs.Equations.{value_is, span_is, driver_fits, map_same, all_imply, all_cut}
 use Rattle.circuit_meaning.proofs.Inputs.{last-steady, next-steady}
-use Rattle.flip_flops.proofs.EdgeLemmas.{none-edge, edge-steady}
+use Rattle.circuit_meaning.proofs.EdgeLemmas.{none-edge, edge-steady}
 
 -- intersections
 pub in_all : (a : Span) (xs : List Span) (u : ℕ) → IsIn (fold meet a xs) u → IsIn a u × AllByRecursion (λ x. IsIn x u) xs

@@ -4,7 +4,7 @@ use Rattle.gate_values.specs.declared.Value.{Value}
 use Rattle.gate_values.specs.declared.Value.TheVariants.{X}
 use Rattle.valid_intervals.specs.Spans.{Span, from_to}
 use Rattle.valid_intervals.specs.declared.Cell.{Cell}
-use Rattle.flip_flops.specs.Edges.{shown_edge, flop_span}
+use Rattle.circuit_meaning.specs.Edges.{shown_edge, flop_span}
 use Rattle.circuit_meaning.specs.Circuit.{FlipFlop, Driver, Input, Gate, Flop, Circuit, driver}
 use Rattle.circuit_meaning.specs.Forward.{last_setting, input_value}
 use Rattle.circuit_meaning.specs.Cells.{next_setting, input_start, least_delay}

@@ -7,7 +7,7 @@ use Rattle.valid_intervals.specs.Spans.{Span, from_to, meet, moved_span}
 use Rattle.valid_intervals.specs.declared.Cell.{Cell}
 use Rattle.valid_intervals.specs.declared.Point.{Point}
 use Rattle.circuit_meaning.specs.Forward.{row_at, last_setting, seen_value, value}
-use Rattle.flip_flops.specs.Edges.{shown_edge, flop_span}
+use Rattle.circuit_meaning.specs.Edges.{shown_edge, flop_span}
 
 -- the least time of a setting after t; if there is none, the limit
 unfoldable pub next_setting : List Setting → ℕ → ℕ → ℕ

@@ -4,8 +4,8 @@ use Rattle.gate_values.specs.declared.Kind.{Kind}
 use Rattle.gate_values.specs.Gates.{allows}
 pub use Rattle.circuit_meaning.specs.declared.Setting.{Setting}
 pub use Rattle.circuit_meaning.specs.declared.Pin.{Pin}
-pub use Rattle.flip_flops.specs.declared.Clock.{Clock}
-use Rattle.flip_flops.specs.Edges.{IsClock}
+pub use Rattle.circuit_meaning.specs.declared.flip_flop.Clock.{Clock}
+use Rattle.circuit_meaning.specs.Edges.{IsClock}
 use Rattle.gate_values.specs.declared.Value.TheVariants.{Z}
 pub use Rattle.circuit_meaning.specs.declared.FlipFlop.{FlipFlop}
 

@@ -8,7 +8,7 @@ use Rattle.gate_values.specs.declared.Kind.TheVariants.{Dff}
 use Rattle.gate_values.specs.Gates.{gate_value, same_value}
 use Rattle.circuit_meaning.specs.Circuit.{Setting, Pin, FlipFlop, Driver, Input, Gate, Flop, Circuit}
 use Rattle.circuit_meaning.specs.declared.Run.{Run}
-use Rattle.flip_flops.specs.Edges.{shown_edge}
+use Rattle.circuit_meaning.specs.Edges.{shown_edge}
 
 -- one more row, made from the rows so far
 abbrev pub with_next_row : {A : Type 0} → (List A → A) → List A → List A

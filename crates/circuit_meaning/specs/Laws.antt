@@ -5,7 +5,7 @@ use Rattle.gate_values.specs.Gates.{same_value}
 use Rattle.circuit_meaning.specs.Circuit.{Pin, Driver, Input, Gate, Flop, Circuit, driver, IsCircuit}
 use Rattle.circuit_meaning.specs.Forward.{value, value_from, entry, forward, wave}
 use Rattle.circuit_meaning.specs.declared.Run.{Run}
-use Rattle.flip_flops.specs.Edges.{shown_edge}
+use Rattle.circuit_meaning.specs.Edges.{shown_edge}
 use Rattle.circuit_meaning.specs.Cells.{span, span_from, looked_pins, cell_at, point_at}
 use Rattle.circuit_meaning.specs.Base.{base_answer}
 use Rattle.valid_intervals.specs.declared.Cell.{Cell}

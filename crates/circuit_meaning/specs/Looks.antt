@@ -8,7 +8,7 @@ use Rattle.gate_values.specs.declared.Kind.TheVariants.{Buff, Dff}
 use Rattle.gate_values.specs.Gates.{decides, up_to_first}
 use Rattle.valid_intervals.specs.declared.Point.{Point}
 use Rattle.valid_intervals.specs.Spans.{Span, from_to, meet, cut_at}
-use Rattle.flip_flops.specs.Edges.{shown_edge}
+use Rattle.circuit_meaning.specs.Edges.{shown_edge}
 use Rattle.circuit_meaning.specs.declared.Pin.{Pin}
 use Rattle.circuit_meaning.specs.Need.{children}
 use Rattle.circuit_meaning.specs.Circuit.{Circuit, Driver, Input, Gate, Flop, driver}

@@ -31,7 +31,10 @@ ghost use Rattle.circuit_meaning.specs.Forced.{FreeAreAlike, FreeNeedIsNeeded, F
 ghost use Rattle.circuit_meaning.specs.Circuit.{Circuit};
 ghost use Rattle.std.specs.Prelude.{ℕ};
 
-use flip_flops::Clock;
+mod flip_flop;
+
+pub use flip_flop::{Clock, edges_are_last, flop_span, last_edge};
+
 use gate_values::Value;
 
 /// A setting: the input has this value from this time until its next setting.

@@ -9,10 +9,10 @@ ghost use Rattle.std.specs.Ordering.{is_gt};
 ghost use Rattle.valid_intervals.specs.Cells.{point_cmp};
 ghost use Rattle.claim_waiters.specs.inner.View.{at, place_in};
 
-use owned_text::OutOfMemory;
 use std::alloc::Global;
 use std::collections::BTreeMap;
 use std::marker::Model;
+use texts::OutOfMemory;
 use valid_intervals::Point;
 
 /// The most claims of a list.

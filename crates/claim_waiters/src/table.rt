@@ -4,10 +4,10 @@ ghost use Rattle.claim_waiters.specs.Claims.{claim_at, first_of, holder_in, wait
 
 use crate::holders::Holders;
 use crate::waiter::Waiter;
-use owned_text::OutOfMemory;
 use std::alloc::Global;
 use std::collections::BTreeMap;
 use std::marker::Model;
+use texts::OutOfMemory;
 use valid_intervals::Point;
 
 /// The claims, by their points.

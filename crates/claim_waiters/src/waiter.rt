@@ -1,7 +1,7 @@
 ghost use Rattle.std.specs.Prelude.{◌≡◌, [], ◌∷◌, ◌++◌, OnOk, OnErr, IfErr};
 
-use owned_text::OutOfMemory;
 use std::alloc::Global;
+use texts::OutOfMemory;
 
 /// What waits at a claimed point, and the room that a claim has for it.
 pub trait Waiter: Drop + Sized {

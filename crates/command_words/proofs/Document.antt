@@ -3,7 +3,7 @@ use Rattle.std.proofs.Common.{◌≡◌, ◌∙◌, ◌||◌, ◌==◌, ℕ, Lis
 use Rattle.std.specs.Prelude.{option_and_then, if◌then◌else◌}
 use Rattle.std.proofs.lemmas.Bool.{or_right}
 use Rattle.std.proofs.lemmas.Bool.Decides.{nat_tests}
-use Rattle.text_rules.specs.Text.{is_number}
+use Rattle.texts.specs.Text.{is_number}
 use Rattle.command_words.specs.Words.{Text, Key, Workers, Shards, Cells, Work, Word, Dashes, Alone, Valued, Name, Refused, Said, Form, what_is, by_word, with_value, with_at, with_names, value_at, read, form_of, form_by, first_form, second_form, number_at, number_in, number_or, workload_of}
 use Rattle.command_words.proofs.Rows.{at_other, same_key, key_is}
 use Rattle.command_words.proofs.Walks.{taken, by_value}

@@ -2,7 +2,7 @@
 use Rattle.std.specs.Prelude.{ℕ, ◌==◌, Bool, ◌&&◌, ◌||◌, List, [], ◌∷◌, ◌++◌, length, nat_le, Option, Some, None, is_some, if◌then◌else◌, codes, option_and_then}
 use Rattle.std.specs.List.{list_any, before_first, after_first}
 use Rattle.std.specs.Str.{bytes_eq}
-use Rattle.text_rules.specs.Text.{is_number, decimal_value}
+use Rattle.texts.specs.Text.{is_number, decimal_value}
 
 abbrev pub Text : Type 0
 Text = List ℕ

@@ -12,9 +12,8 @@ use crate::Words;
 use crate::command::find_words;
 use clap::ArgMatches;
 use clap::error::ErrorKind;
-use owned_text::OutOfMemory;
 use std::alloc::Global;
-use text_rules::{Amount, read_amount};
+use texts::{Amount, OutOfMemory, read_amount};
 
 /// One to ten digits, from `least` to `most`.
 fn number(text: &str, least: u32, most: u32) -> Option<u32>

@@ -5,14 +5,14 @@ use Rattle.valid_intervals.specs.declared.Cell.{Cell}
 use Rattle.valid_intervals.specs.declared.Point.{Point}
 use Rattle.circuit_meaning.specs.Circuit.{Circuit}
 use Rattle.circuit_meaning.specs.Need.{IsRoot}
-use Rattle.batch_meaning.specs.declared.Query.{Query}
-use Rattle.batch_meaning.specs.Batches.{Batch, window_of}
-use Rattle.strand_meaning.specs.declared.Next.TheVariants.{Ask, Fill}
-use Rattle.batch_meaning.specs.Lawful.{IsLawful, IsQueryOf}
-use Rattle.strand_meaning.specs.Strands.{Strand, IsStrand, next, after_answer, after_claim, after_fill, rest}
-use Rattle.strand_meaning.proofs.Stacks.{heard-keeps, claimed-keeps, finished-keeps, length-heard, length-rest, fill-top}
-use Rattle.strand_meaning.proofs.Started.{started-right, query-within}
-use Rattle.pin_walks.specs.declared.walk.PinWalk.{PinWalk}
+use Rattle.journal_meaning.specs.declared.batch.Query.{Query}
+use Rattle.journal_meaning.specs.Batches.{Batch, window_of}
+use Rattle.plan_machine.specs.declared.strand.Next.TheVariants.{Ask, Fill}
+use Rattle.journal_meaning.specs.Lawful.{IsLawful, IsQueryOf}
+use Rattle.plan_machine.specs.Strands.{Strand, IsStrand, next, after_answer, after_claim, after_fill, rest}
+use Rattle.plan_machine.proofs.Stacks.{heard-keeps, claimed-keeps, finished-keeps, length-heard, length-rest, fill-top}
+use Rattle.plan_machine.proofs.Started.{started-right, query-within}
+use Rattle.design.specs.declared.pin_walk.PinWalk.{PinWalk}
 use Rattle.demand_points.specs.declared.parts.Parts.{Parts}
 use Rattle.demand_points.specs.inner.Bases.{shown_frame}
 use Rattle.demand_points.specs.Demands.{IsLastHeard, IsRootCell, itself}

@@ -11,10 +11,10 @@ use Rattle.circuit_meaning.specs.Need.{HasChildren, IsEvaluable}
 use Rattle.circuit_meaning.specs.Looks.{somes}
 use Rattle.circuit_meaning.proofs.Cover.{cell-covers}
 use Rattle.circuit_meaning.proofs.Looking.{children-somes}
-use Rattle.strand_meaning.specs.Strands.{has_children, is_evaluable, asked_children, roots_from}
-use Rattle.strand_meaning.proofs.Stacks.{evaluable-true}
-use Rattle.pin_walks.specs.declared.walk.PinWalk.{PinWalk}
-use Rattle.pin_walks.specs.PinWalks.{looked_at, next_point, IsPinWalk, IsLooking, LooksOn}
+use Rattle.plan_machine.specs.Strands.{has_children, is_evaluable, asked_children, roots_from}
+use Rattle.plan_machine.proofs.Stacks.{evaluable-true}
+use Rattle.design.specs.declared.pin_walk.PinWalk.{PinWalk}
+use Rattle.design.specs.PinWalks.{looked_at, next_point, IsPinWalk, IsLooking, LooksOn}
 use Rattle.demand_points.specs.inner.Bases.{left_after, HearsBases, HearsBase}
 use Rattle.demand_points.specs.Demands.{roots_left}
 

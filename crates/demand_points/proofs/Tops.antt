@@ -3,7 +3,7 @@ use Rattle.std.proofs.Common.{◌≡◌, ℕ, ◌-◌, ◌<◌, List, [], ◌∷
 use Rattle.std.proofs.Math.ListN.{set}
 use Rattle.std.proofs.Math.Seq.{set-append_seam, get_or-append_seam}
 use Rattle.std.proofs.lemmas.List.{reverse-append, reverse-reverse, length-reverse}
-use Rattle.pin_walks.specs.declared.walk.PinWalk.{PinWalk}
+use Rattle.design.specs.declared.pin_walk.PinWalk.{PinWalk}
 use Rattle.demand_points.specs.inner.Stacks.{IsTop, OnTop, ChangesTop, with_top}
 
 -- the last item is the top

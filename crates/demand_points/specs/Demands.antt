@@ -5,12 +5,12 @@ use Rattle.valid_intervals.specs.declared.Point.{Point}
 use Rattle.circuit_meaning.specs.declared.Window.{Window}
 use Rattle.circuit_meaning.specs.Circuit.{Circuit}
 use Rattle.circuit_meaning.specs.Need.{IsRoot, IsEvaluable}
-use Rattle.batch_meaning.specs.declared.Query.{Query}
-use Rattle.batch_meaning.specs.Batches.{Batch, window_of}
+use Rattle.journal_meaning.specs.declared.batch.Query.{Query}
+use Rattle.journal_meaning.specs.Batches.{Batch, window_of}
 use Rattle.circuit_meaning.specs.Cells.{cell_at}
-use Rattle.strand_meaning.specs.declared.Next.TheVariants.{Ask, Fill}
-use Rattle.batch_meaning.specs.Lawful.{IsLawful}
-use Rattle.strand_meaning.specs.Strands.{Strand, IsStrand, is_evaluable, roots_from, next}
+use Rattle.plan_machine.specs.declared.strand.Next.TheVariants.{Ask, Fill}
+use Rattle.journal_meaning.specs.Lawful.{IsLawful}
+use Rattle.plan_machine.specs.Strands.{Strand, IsStrand, is_evaluable, roots_from, next}
 
 -- What contracts see: its number, the window that it serves, the time of the root that it hears next, the cell of the root that it
 -- heard last, and the strand itself, in which nothing is to be seen of base answers.

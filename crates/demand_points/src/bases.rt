@@ -1,10 +1,9 @@
 //! The base answers that a claimed point hears by itself.
 
-ghost use Rattle.pin_walks.specs.PinWalks.{IsPinWalk};
+ghost use Rattle.design.specs.PinWalks.{IsPinWalk};
 ghost use Rattle.demand_points.specs.inner.Bases.{HearsAllBases};
 
-use design::Design;
-use pin_walks::PinWalk;
+use design::{Design, PinWalk};
 
 /// Hears base answers, up to the next pin that has none. A pin that reads a time before 0 is looked at too.
 pub fn hear_bases(design: &Design, walk: &mut PinWalk)

@@ -7,7 +7,7 @@ use std::marker::Brand;
 /// batch.
 pub trait BatchName {
     ghost use Rattle.std.specs.Prelude.{ℕ, List};
-    ghost use Rattle.batch_meaning.specs.Batches.{Batch};
+    ghost use Rattle.journal_meaning.specs.Batches.{Batch};
     ghost use Rattle.valid_intervals.specs.declared.SignalCell.{SignalCell};
 
     /// The batch.

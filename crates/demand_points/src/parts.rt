@@ -2,19 +2,18 @@
 
 ghost use Rattle.std.specs.Prelude.{◌≡◌, ◌+◌, ◌<◌, ◌^◌, [], true, OnOk, OnErr, MatchOption};
 ghost use Rattle.circuit_meaning.specs.Cells.{cell_at};
-ghost use Rattle.strand_meaning.specs.Strands.{next, after_answer, after_claim, after_fill};
-ghost use Rattle.strand_meaning.specs.declared.Next.TheVariants.{Ask, Fill};
+ghost use Rattle.plan_machine.specs.Strands.{next, after_answer, after_claim, after_fill};
+ghost use Rattle.plan_machine.specs.declared.strand.Next.TheVariants.{Ask, Fill};
 ghost use Rattle.valid_intervals.specs.declared.Point.{Point};
 ghost use Rattle.demand_points.specs.inner.Demands.{strand_of, IsRunning, IsReadyAt, IsRootReady, IsRootKnown, IsUndone, StaysAtRoot, TakesStepTo};
 ghost use Rattle.demand_points.specs.Demands.{itself, IsAskedCell, IsFilling};
 
 use crate::bases::hear_bases;
 use crate::stack::Stack;
-use batch_meaning::Query;
-use design::Design;
-use pin_walks::PinWalk;
+use design::{Design, PinWalk};
+use journal_meaning::Query;
+use plan_machine::Next;
 use std::alloc::AllocError;
-use strand_meaning::Next;
 use valid_intervals::{Cell, Point};
 
 /// What a strand is made of. The next root of its window is at the time `root`; `last` is the cell of the root before it.

@@ -1,13 +1,12 @@
 //! A stack of claimed points.
 
 ghost use Rattle.std.specs.Prelude.{◌≡◌, [], ◌∷◌, length, OnOk, OnErr, MatchOption};
-ghost use Rattle.pin_walks.specs.PinWalks.{IsPinWalk, LooksOn};
+ghost use Rattle.design.specs.PinWalks.{IsPinWalk, LooksOn};
 ghost use Rattle.demand_points.specs.inner.Bases.{IsHearing, HearsAllBases};
 ghost use Rattle.demand_points.specs.inner.Stacks.{IsTop, OnTop, ChangesTop, with_top};
 
 use crate::bases::hear_bases;
-use design::Design;
-use pin_walks::PinWalk;
+use design::{Design, PinWalk};
 use std::alloc::{AllocError, Global};
 use std::marker::Model;
 use valid_intervals::Cell;
@@ -20,7 +19,7 @@ pub struct Stack {
 
 impl Model for Stack {
     ghost use Rattle.std.specs.Prelude.{List, reverse};
-    ghost use Rattle.pin_walks.specs.declared.walk.PinWalk.{PinWalk};
+    ghost use Rattle.design.specs.declared.pin_walk.PinWalk.{PinWalk};
 
     ghost Value = { List PinWalk };
 

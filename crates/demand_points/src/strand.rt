@@ -3,24 +3,24 @@
 ghost use Rattle.std.specs.Prelude.{◌≡◌, ◌≤◌, ◌<◌, [], length, None, IfSome, OnOk, OnErr};
 ghost use Rattle.circuit_meaning.specs.Need.{IsRoot};
 ghost use Rattle.circuit_meaning.specs.Cells.{cell_at};
-ghost use Rattle.batch_meaning.specs.Batches.{window_of};
-ghost use Rattle.strand_meaning.specs.declared.Next.TheVariants.{Ask, Fill, Drop, Done};
-ghost use Rattle.batch_meaning.specs.Lawful.{IsLawful, IsQueryOf};
-ghost use Rattle.strand_meaning.specs.Strands as strands;
-ghost use Rattle.strand_meaning.specs.Strands.{next, started_strand};
+ghost use Rattle.journal_meaning.specs.Batches.{window_of};
+ghost use Rattle.plan_machine.specs.declared.strand.Next.TheVariants.{Ask, Fill, Drop, Done};
+ghost use Rattle.journal_meaning.specs.Lawful.{IsLawful, IsQueryOf};
+ghost use Rattle.plan_machine.specs.Strands as strands;
+ghost use Rattle.plan_machine.specs.Strands.{next, started_strand};
 ghost use Rattle.demand_points.specs.Demands.{HasHeardBases, IsAskedCell, IsAsking, IsFilling, IsKnownStrand, IsRootCell, TakesStep, itself};
 ghost use Rattle.valid_intervals.specs.declared.Point.{Point};
 
 use crate::names::BatchName;
 use crate::parts::Parts;
 use crate::stack::Stack;
-use batch_meaning::Query;
 use claim_waiters::Waiter;
 use design::Design;
-use owned_text::OutOfMemory;
+use journal_meaning::Query;
+use plan_machine::Next;
 use std::alloc::Global;
 use std::marker::{Model, PhantomData};
-use strand_meaning::Next;
+use texts::OutOfMemory;
 use valid_intervals::{Cell, Point};
 
 /// The query, window and budget that a strand was started with.

@@ -12,7 +12,7 @@ use Rattle.gate_values.proofs.Pins.{allows-some}
 use Rattle.gate_values.proofs.Unknown.{gate_value-unknown}
 use Rattle.valid_intervals.specs.declared.Cell.{Cell}
 use Rattle.valid_intervals.specs.Spans.{Span, from_to}
-use Rattle.flip_flops.specs.Edges.{shown_edge, flop_span}
+use Rattle.circuit_meaning.specs.Edges.{shown_edge, flop_span}
 use Rattle.circuit_meaning.specs.declared.FlipFlop.{FlipFlop}
 use Rattle.circuit_meaning.specs.declared.Setting.{Setting}
 use Rattle.circuit_meaning.specs.declared.Pin.{Pin}

@@ -14,8 +14,8 @@ use Rattle.gate_values.specs.declared.Value.{Value}
 use Rattle.gate_values.specs.declared.Value.TheVariants.{X, Z}
 use Rattle.gate_values.specs.Gates.{allows, is_unary}
 use Rattle.gate_values.proofs.Pins.{allows-one, allows-some}
-use Rattle.flip_flops.specs.declared.Clock.{Clock}
-use Rattle.flip_flops.specs.Edges.{IsClock}
+use Rattle.circuit_meaning.specs.declared.flip_flop.Clock.{Clock}
+use Rattle.circuit_meaning.specs.Edges.{IsClock}
 use Rattle.circuit_meaning.specs.declared.Setting.{Setting}
 use Rattle.circuit_meaning.specs.declared.Pin.{Pin}
 use Rattle.circuit_meaning.specs.declared.FlipFlop.{FlipFlop}

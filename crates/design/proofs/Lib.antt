@@ -19,3 +19,4 @@ pub mod SettingOrder
 pub mod ChangedSettings
 pub mod Repeats
 pub mod Followed
+pub mod PinWalkLemmas

@@ -7,7 +7,7 @@ use Rattle.std.proofs.lemmas.Bool.{cases_lt}
 use Rattle.std.proofs.lemmas.Option.{slice_get-get_or, slice_get-map, get_or_from_slice_get}
 use Rattle.valid_intervals.specs.declared.Point.{Point}
 use Rattle.valid_intervals.specs.Spans.{Span, from_to, moved_span, cut_at}
-use Rattle.flip_flops.specs.Edges.{shown_edge, flop_span}
+use Rattle.circuit_meaning.specs.Edges.{shown_edge, flop_span}
 use Rattle.circuit_meaning.specs.declared.FlipFlop.{FlipFlop}
 use Rattle.circuit_meaning.specs.declared.Pin.{Pin}
 use Rattle.circuit_meaning.specs.Circuit.{Circuit, driver, IsCircuit, read_by}
@@ -15,7 +15,7 @@ use Rattle.gate_values.specs.declared.Kind.{Kind}
 use Rattle.circuit_meaning.specs.Cells.{span, pin_span}
 use Rattle.circuit_meaning.specs.Need.{IsEvaluable, HasChildren}
 use Rattle.circuit_meaning.specs.Looks.{pin_point, flop_points, pin_points_at, pin_points, no_pin, interval_at, pin_interval}
-use Rattle.flip_flops.proofs.EdgeLemmas.{shown_edge-le}
+use Rattle.circuit_meaning.proofs.EdgeLemmas.{shown_edge-le}
 use Rattle.circuit_meaning.proofs.Cover.{cell-covers}
 use Rattle.design.specs.declared.rows.SignalView.TheVariants as row
 use Rattle.design.specs.inner.KeptDesigns.{IsViewOf}

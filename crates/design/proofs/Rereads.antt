@@ -10,7 +10,7 @@ use Rattle.std.specs.Cmp.{tied_then, unsigned_tied}
 use Rattle.std.proofs.lemmas.List.{drop_more, drop_all, take_more}
 use Rattle.std.proofs.lemmas.Cmp.{nat_list_eq_equiv}
 use Rattle.std.proofs.lemmas.Map.Text.{is_eq-slice_cmp}
-use Rattle.flip_flops.specs.declared.Clock.{Clock}
+use Rattle.circuit_meaning.specs.declared.flip_flop.Clock.{Clock}
 use Rattle.design.specs.inner.Said.{KnowsClocks, HasStated, TakesRow, pin_cmp}
 use Rattle.bench_reader.specs.Netlists as netlists
 use Rattle.timing_file.specs.Timing as timings

@@ -7,7 +7,7 @@ use Rattle.gate_values.specs.declared.Value.TheVariants.{X}
 use Rattle.gate_values.specs.declared.Kind.{Kind}
 use Rattle.gate_values.specs.declared.Kind.TheVariants.{Dff}
 use Rattle.gate_values.specs.Gates.{same_value}
-use Rattle.flip_flops.specs.declared.Clock.{Clock}
+use Rattle.circuit_meaning.specs.declared.flip_flop.Clock.{Clock}
 use Rattle.circuit_meaning.specs.declared.Setting.{Setting}
 use Rattle.circuit_meaning.specs.declared.FlipFlop.{FlipFlop}
 use Rattle.circuit_meaning.specs.Circuit as circuits

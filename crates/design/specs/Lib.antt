@@ -5,3 +5,4 @@ pub mod Causes
 pub mod Join
 pub mod Laws
 pub mod inner
+pub mod PinWalks

@@ -5,3 +5,4 @@ pub mod KeptDesigns
 pub mod Links
 pub mod Said
 pub mod Walk
+pub mod HeardCells

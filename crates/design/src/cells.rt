@@ -3,7 +3,7 @@
 ghost use Rattle.std.specs.Prelude.{◌≡◌, ◌+◌, ◌<◌, ◌≤◌, length, All, Some, None, IfNone, IfSome, IsSome, min};
 ghost use Rattle.std.specs.List.{AllWithin};
 ghost use Rattle.valid_intervals.specs.Spans.{from_to, cut_at, IsSpan};
-ghost use Rattle.flip_flops.specs.Edges as edges;
+ghost use Rattle.circuit_meaning.specs.Edges as edges;
 ghost use Rattle.gate_values.specs.declared.Value.TheVariants.{X};
 ghost use Rattle.circuit_meaning.specs.Circuit.{AreFlopLimits};
 ghost use Rattle.circuit_meaning.specs.Forward as forward;
@@ -12,8 +12,7 @@ ghost use Rattle.circuit_meaning.specs.Cells.{next_setting, input_start};
 ghost use Rattle.design.specs.inner.KeptDesigns.{InTimeOrder};
 ghost use Rattle.design.specs.inner.Given.{last_of, next_of, later_of};
 
-use circuit_meaning::{FlipFlop, Setting};
-use flip_flops::last_edge;
+use circuit_meaning::{FlipFlop, Setting, last_edge};
 use gate_values::Value;
 use valid_intervals::{Cell, Span};
 
@@ -123,7 +122,7 @@ pub fn flop_span(flop: &FlipFlop, time: u32, limit: u32) -> Span
 {
     match flop.clock {
         None => span_of(0, limit),
-        Some(clock) => flip_flops::flop_span(&clock, flop.delay, time, limit),
+        Some(clock) => circuit_meaning::flop_span(&clock, flop.delay, time, limit),
     }
 }
 

@@ -6,8 +6,8 @@ ghost use Rattle.design.specs.inner.Walk.{Marks};
 
 use crate::design::Design;
 use crate::flags::FlagList;
-use owned_text::OutOfMemory;
 use std::alloc::{AllocError, Global};
+use texts::OutOfMemory;
 
 /// A walk: a mark for each signal, and the marked signals still to be visited.
 #[derive(Drop)]

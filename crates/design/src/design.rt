@@ -24,11 +24,11 @@ use crate::settings;
 use crate::signal_timing::SignalTiming;
 use bench_reader::Netlist;
 use gate_values::{Kind, Value};
-use owned_text::OutOfMemory;
 use std::alloc::{AllocError, Global};
 use std::marker::Model;
 use std::sync::Arc;
 use stimulus_file::Stimulus;
+use texts::OutOfMemory;
 use timing_file::Timing;
 use valid_intervals::{Cell, Span};
 

@@ -3,8 +3,8 @@
 ghost use Rattle.std.specs.Prelude.{◌≡◌};
 ghost use Rattle.design.specs.Causes.{number_of, out_of_memory};
 
-use owned_text::OutOfMemory;
 use std::alloc::{AllocError, AllocFailed};
+use texts::OutOfMemory;
 
 /// What is wrong with a row of one of the files.
 #[derive(Clone, Copy, Debug, PartialEq, Eq)]

@@ -8,10 +8,10 @@ ghost use Rattle.design.specs.inner.Walk.{list_at, AddsReader, AreReaders};
 
 use crate::held::{HeldSignal, drop_held};
 use crate::origin::Origin;
-use owned_text::OutOfMemory;
 use std::alloc::{AllocError, Global};
 use std::marker::Model;
 use std::sync::Arc;
+use texts::OutOfMemory;
 
 /// A reader of a signal, and the number of the link before it; 0 if there is none.
 #[derive(Clone, Copy)]

@@ -16,9 +16,9 @@ use crate::signal_timing::Rows;
 use bench_reader::Netlist;
 use circuit_meaning::Setting;
 use gate_values::Value;
-use owned_text::Text;
 use std::alloc::{AllocError, Global};
 use stimulus_file::{NamedSets, NumberedSet};
+use texts::Text;
 
 /// The place of the input with this name among all inputs.
 fn input_named(netlist: &Netlist, rows: &[Row], name: &Text) -> Result<u32, JoinCause>

@@ -17,8 +17,7 @@ ghost use Rattle.design.specs.inner.Said.{KnowsClocks, HasStated, TakesRow, Take
 use crate::fault::{JoinCause, JoinFault, JoinFile};
 use crate::rows::Row;
 use bench_reader::{Netlist, Row as NetlistRow};
-use circuit_meaning::FlipFlop;
-use flip_flops::Clock;
+use circuit_meaning::{Clock, FlipFlop};
 use gate_values::{Kind, Value};
 use std::alloc::{AllocError, Global};
 use std::collections::BTreeMap;

@@ -10,7 +10,7 @@ use Rattle.journal_meaning.specs.States.{State, fresh, holder, IsLeastRecent}
 use Rattle.journal_meaning.specs.Table.{Needs, after}
 use Rattle.valid_intervals.specs.Cells.{covers, cell_for, all_but_last, same_stored}
 use Rattle.valid_intervals.specs.declared.SignalCell.{SignalCell}
-use Rattle.batch_meaning.specs.Batches.{Batch}
+use Rattle.journal_meaning.specs.Batches.{Batch}
 use Rattle.circuit_meaning.specs.Cells.{cell_at}
 use Rattle.journal_meaning.specs.Replay.{replay, IsLegal, IsLegalTrim}
 use Rattle.journal_meaning.specs.Sections.{Purpose, Asks, Trims, Forces, SectionEntries, IsLegalIn, own_entries, list_of, cells_left, AreLegal, joined_entries}

@@ -6,13 +6,13 @@ use Rattle.std.specs.Option.{option_or}
 use Rattle.std.specs.List.{cons_option}
 use Rattle.valid_intervals.specs.declared.Point.{Point}
 use Rattle.circuit_meaning.specs.Circuit.{IsCircuit}
-use Rattle.batch_meaning.specs.declared.Query.{Query}
+use Rattle.journal_meaning.specs.declared.batch.Query.{Query}
 use Rattle.journal_meaning.specs.declared.Entry.{Entry}
 use Rattle.journal_meaning.specs.declared.Entry.TheVariants.{Told, Claimed, Filled, Evicted, Dropped, Spent}
 use Rattle.journal_meaning.specs.States.{fresh}
 use Rattle.valid_intervals.specs.Cells.{same_point}
 use Rattle.valid_intervals.specs.declared.SignalCell.{SignalCell}
-use Rattle.batch_meaning.specs.Batches.{Batch, IsNeededBy}
+use Rattle.journal_meaning.specs.Batches.{Batch, IsNeededBy}
 use Rattle.journal_meaning.specs.Replay.{IsLegalBatch}
 use Rattle.journal_meaning.specs.Answers.{is_of, last_of, is_fill_of, fill_count, IsSpent, IsAnswer}
 use Rattle.journal_meaning.specs.Laws.{NoEviction, HasRoom, IsLegalFrom, IsRoomy, IsOwnQuery, NeedsMoreThan, NeedsAtMost}

@@ -14,11 +14,11 @@ use Rattle.circuit_meaning.specs.Cells.{span, least_delay, next_setting}
 use Rattle.valid_intervals.specs.Spans.{from_to}
 use Rattle.circuit_meaning.specs.Need.{children, IsRoot, First, Next, IsNeeded, Root, Child}
 use Rattle.valid_intervals.specs.declared.Cell.{Cell}
-use Rattle.batch_meaning.specs.declared.Query.{Query}
+use Rattle.journal_meaning.specs.declared.batch.Query.{Query}
 use Rattle.journal_meaning.specs.declared.Entry.{Entry}
 use Rattle.journal_meaning.specs.declared.Entry.TheVariants.{Told, Claimed, Filled, Evicted, Dropped, Spent}
 use Rattle.journal_meaning.specs.States.{fresh}
-use Rattle.batch_meaning.specs.Batches.{Batch, window_of, OfQuery, IsNeededBy}
+use Rattle.journal_meaning.specs.Batches.{Batch, window_of, OfQuery, IsNeededBy}
 use Rattle.std.proofs.lemmas.List.Elements.{All-from_recursion}
 use Rattle.journal_meaning.specs.Answers.{IsSpent, last_of}
 use Rattle.journal_meaning.proofs.Lists.{pairs_to}

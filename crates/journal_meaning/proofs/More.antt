@@ -15,7 +15,7 @@ use Rattle.journal_meaning.specs.declared.Entry.TheVariants.{Told, Claimed, Fill
 use Rattle.journal_meaning.specs.States.{State}
 use Rattle.valid_intervals.specs.Cells.{is_stored, same_stored, cell_for, covers, to_front}
 use Rattle.journal_meaning.specs.Table.{Needs, after}
-use Rattle.batch_meaning.specs.Batches.{Batch}
+use Rattle.journal_meaning.specs.Batches.{Batch}
 use Rattle.journal_meaning.specs.Allowed.{IsAllowed, IsRight}
 use Rattle.journal_meaning.specs.Counts.{booked_count, is_booked}
 use Rattle.journal_meaning.specs.Replay.{replay, IsLegal}

@@ -8,7 +8,7 @@ use Rattle.valid_intervals.specs.declared.Cell.{Cell}
 use Rattle.journal_meaning.specs.States.{State, Claim, holder}
 use Rattle.journal_meaning.specs.Table.{Needs, after}
 use Rattle.valid_intervals.specs.Cells.{same_point}
-use Rattle.batch_meaning.specs.Batches.{Batch, IsNeededBy, OfQuery}
+use Rattle.journal_meaning.specs.Batches.{Batch, IsNeededBy, OfQuery}
 use Rattle.journal_meaning.specs.Allowed.{IsAt, IsAllowed}
 use Rattle.journal_meaning.specs.Replay.{IsLegal, replay}
 use Rattle.journal_meaning.proofs.Lists.{Each, each-filter}

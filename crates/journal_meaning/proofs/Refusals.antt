@@ -9,8 +9,8 @@ use Rattle.circuit_meaning.specs.Forward.{rows_below, row_at, last_setting, valu
 use Rattle.circuit_meaning.specs.Cells.{span, least_delay, next_setting}
 use Rattle.circuit_meaning.specs.Need.{IsInCone, Itself, Reads, IsNeeded}
 use Rattle.journal_meaning.specs.declared.Entry.TheVariants.{Claimed, Filled, Evicted, Dropped, Spent}
-use Rattle.batch_meaning.specs.declared.Query.{Query}
-use Rattle.batch_meaning.specs.Batches.{Batch, window_of}
+use Rattle.journal_meaning.specs.declared.batch.Query.{Query}
+use Rattle.journal_meaning.specs.Batches.{Batch, window_of}
 use Rattle.journal_meaning.specs.Replay.{IsLegalBatch}
 use Rattle.journal_meaning.proofs.Lists.{contains-one}
 use Rattle.journal_meaning.proofs.Examples.{at, cell, both, first_query, tight, both15, second_query, again, third_query, third}

@@ -12,7 +12,7 @@ use Rattle.journal_meaning.specs.States.{State, fresh, holder, IsLeastRecent}
 use Rattle.valid_intervals.specs.Cells.{is_stored, same_stored, covers, cell_for, to_front, all_but_last}
 use Rattle.journal_meaning.specs.Table.{Needs, after}
 use Rattle.valid_intervals.specs.declared.SignalCell.{SignalCell}
-use Rattle.batch_meaning.specs.Batches.{Batch}
+use Rattle.journal_meaning.specs.Batches.{Batch}
 use Rattle.journal_meaning.specs.Allowed.{IsAllowed}
 use Rattle.circuit_meaning.specs.Cells.{cell_at}
 use Rattle.journal_meaning.specs.Replay.{IsLegal}

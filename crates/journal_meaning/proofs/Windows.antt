@@ -13,12 +13,12 @@ use Rattle.circuit_meaning.specs.Need.{HasChildren, IsEvaluable, IsRoot, First, 
 use Rattle.circuit_meaning.proofs.Cover.{cell-covers}
 use Rattle.circuit_meaning.proofs.Equations.{span_is}
 use Rattle.circuit_meaning.proofs.Steady.{cell-steady, gate_span-early}
-use Rattle.batch_meaning.specs.declared.Query.{Query}
+use Rattle.journal_meaning.specs.declared.batch.Query.{Query}
 use Rattle.journal_meaning.specs.declared.Entry.{Entry}
 use Rattle.journal_meaning.specs.declared.Entry.TheVariants.{Told, Claimed, Filled, Evicted, Dropped, Spent}
 use Rattle.journal_meaning.specs.States.{State}
 use Rattle.journal_meaning.specs.Table.{after}
-use Rattle.batch_meaning.specs.Batches.{Batch, window_of}
+use Rattle.journal_meaning.specs.Batches.{Batch, window_of}
 use Rattle.journal_meaning.specs.Allowed.{IsAllowed}
 use Rattle.journal_meaning.specs.Replay.{IsLegal}
 use Rattle.journal_meaning.specs.Answers.{Says, IsCovered, ChildrenCovered, IsClosed}

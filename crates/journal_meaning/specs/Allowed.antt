@@ -4,7 +4,7 @@ use Rattle.valid_intervals.specs.declared.Point.{Point}
 use Rattle.valid_intervals.specs.declared.SignalCell.{SignalCell}
 use Rattle.circuit_meaning.specs.Circuit.{Circuit}
 use Rattle.circuit_meaning.specs.Cells.{cell_at}
-use Rattle.batch_meaning.specs.Batches.{Batch, IsNeededBy, OfQuery, shard_number}
+use Rattle.journal_meaning.specs.Batches.{Batch, IsNeededBy, OfQuery, shard_number}
 use Rattle.journal_meaning.specs.declared.Entry.{Entry}
 use Rattle.journal_meaning.specs.declared.Entry.TheVariants.{Told, Claimed, Filled, Evicted, Dropped, Spent}
 

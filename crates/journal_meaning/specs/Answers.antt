@@ -7,11 +7,11 @@ use Rattle.circuit_meaning.specs.Circuit.{Circuit}
 use Rattle.circuit_meaning.specs.Forward.{wave}
 use Rattle.circuit_meaning.specs.declared.Run.{Run}
 use Rattle.circuit_meaning.specs.Need.{IsRoot, IsEvaluable, children}
-use Rattle.batch_meaning.specs.declared.Query.{Query}
+use Rattle.journal_meaning.specs.declared.batch.Query.{Query}
 use Rattle.journal_meaning.specs.declared.Entry.{Entry}
 use Rattle.journal_meaning.specs.declared.Entry.TheVariants.{Told, Claimed, Filled, Evicted, Dropped, Spent}
 use Rattle.valid_intervals.specs.Cells.{same_point, covers, cell_for}
-use Rattle.batch_meaning.specs.Batches.{window_of}
+use Rattle.journal_meaning.specs.Batches.{window_of}
 
 -- the entry says the cell of the point
 abbrev pub Says : Point → Entry → Type 0

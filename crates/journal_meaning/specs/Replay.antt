@@ -5,7 +5,7 @@ use Rattle.journal_meaning.specs.declared.Entry.{Entry}
 use Rattle.journal_meaning.specs.declared.Entry.TheVariants.{Evicted}
 use Rattle.journal_meaning.specs.States.{State, fresh, IsLeastRecent}
 use Rattle.journal_meaning.specs.Table.{Needs, after}
-use Rattle.batch_meaning.specs.Batches.{Batch}
+use Rattle.journal_meaning.specs.Batches.{Batch}
 use Rattle.journal_meaning.specs.Allowed.{IsAllowed}
 
 -- the state to which the entries lead

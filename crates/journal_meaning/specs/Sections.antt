@@ -3,7 +3,7 @@ use Rattle.std.specs.Prelude.{ℕ, ⊤, List, [], ◌∷◌, slice_index_or, fla
 use Rattle.valid_intervals.specs.declared.SignalCell.{SignalCell}
 use Rattle.journal_meaning.specs.declared.Entry.{Entry}
 use Rattle.journal_meaning.specs.States.{fresh}
-use Rattle.batch_meaning.specs.Batches.{Batch}
+use Rattle.journal_meaning.specs.Batches.{Batch}
 use Rattle.journal_meaning.specs.Replay.{replay, IsLegalBatch, IsLegalTrim}
 
 -- The purpose of a section. The section of a forced signal is that of a second memo, which begins and ends with the section.

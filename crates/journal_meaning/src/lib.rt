@@ -40,6 +40,10 @@ ghost use Rattle.journal_meaning.specs.Counts.{evaluated_point};
 ghost use Rattle.journal_meaning.specs.Entries.{cell_said};
 ghost use Rattle.journal_meaning.specs.Laws.{CountsAdd, AgainAfterEviction, OneFillPerEviction, SpentNeedsMore, EnoughBudget};
 
+mod batch;
+
+pub use batch::{Query, pieces_make_windows};
+
 use valid_intervals::{Cell, Point};
 
 /// What a shard of the memo did. `q` is the number of the query that it served, and `p` the point.

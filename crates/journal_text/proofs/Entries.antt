@@ -4,12 +4,12 @@ use Rattle.std.specs.Prelude.{codes}
 use Rattle.std.proofs.lemmas.Option.{same_Some}
 use Rattle.journal_meaning.specs.declared.Entry.{Entry}
 use Rattle.journal_meaning.specs.declared.Entry.TheVariants.{Told, Claimed, Filled, Evicted, Dropped, Spent}
-use Rattle.text_fields.specs.Spelling.{field}
+use Rattle.texts.specs.fields.Spelling.{field}
 use Rattle.journal_text.specs.Spelling.{point, cell, line_feed, entry_line}
 use Rattle.journal_text.specs.Written.{IsEntry}
-use Rattle.text_fields.specs.Reading.{◌>>=◌, after_word, field_at}
+use Rattle.texts.specs.fields.Reading.{◌>>=◌, after_word, field_at}
 use Rattle.journal_text.specs.inner.Reading.{behind, point_at, cell_at, told_at, claimed_at, filled_at, evicted_at, dropped_at, spent_at, entry_at}
-use Rattle.text_fields.proofs.Fields.{bind_some, after_takes, field_takes}
+use Rattle.texts.proofs.FieldLemmas.{bind_some, after_takes, field_takes}
 use Rattle.journal_text.proofs.Fields.{point_takes, cell_takes}
 
 -- a word, or what else there may be

@@ -7,10 +7,10 @@ use Rattle.gate_values.specs.declared.Value.{Value}
 use Rattle.valid_intervals.specs.declared.Cell.{Cell}
 use Rattle.valid_intervals.specs.declared.Point.{Point}
 use Rattle.valid_intervals.specs.Spans.{IsSpan, from_to}
-use Rattle.text_fields.specs.Spelling.{field}
-use Rattle.text_fields.specs.Reading.{◌>>=◌, after_word, field_at, value_at}
-use Rattle.text_fields.proofs.Numbers.{EndsNumber}
-use Rattle.text_fields.proofs.Fields.{bind_some, after_takes, field_takes, field_again, value_takes, value_again}
+use Rattle.texts.specs.fields.Spelling.{field}
+use Rattle.texts.specs.fields.Reading.{◌>>=◌, after_word, field_at, value_at}
+use Rattle.texts.proofs.Numbers.{EndsNumber}
+use Rattle.texts.proofs.FieldLemmas.{bind_some, after_takes, field_takes, field_again, value_takes, value_again}
 use Rattle.journal_text.specs.Spelling.{point, cell}
 use Rattle.journal_text.specs.Written.{IsPoint, IsCell}
 use Rattle.journal_text.specs.inner.Reading.{point_at, cell_at}

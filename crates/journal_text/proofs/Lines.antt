@@ -4,12 +4,12 @@ use Rattle.valid_intervals.specs.declared.Cell.{Cell}
 use Rattle.valid_intervals.specs.declared.Point.{Point}
 use Rattle.journal_meaning.specs.declared.Entry.{Entry}
 use Rattle.journal_meaning.specs.declared.Entry.TheVariants.{Told, Claimed, Filled, Evicted, Dropped, Spent}
-use Rattle.text_fields.specs.Spelling.{field, IsNumber}
+use Rattle.texts.specs.fields.Spelling.{field, IsNumber}
 use Rattle.journal_text.specs.Spelling.{point, cell, line_feed, entry_line}
 use Rattle.journal_text.specs.Written.{IsPoint, IsCell, IsEntry}
 use Rattle.journal_text.specs.inner.Reading.{told_at, claimed_at, filled_at, evicted_at, dropped_at, spent_at, entry_at}
-use Rattle.text_fields.proofs.Fields.{field_again}
-use Rattle.text_fields.proofs.Items.{AreSpelled}
+use Rattle.texts.proofs.FieldLemmas.{field_again}
+use Rattle.texts.proofs.Items.{AreSpelled}
 use Rattle.journal_text.proofs.Fields.{point_again, cell_again}
 use Rattle.journal_text.proofs.Entries.{entry_takes}
 

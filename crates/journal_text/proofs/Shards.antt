@@ -5,14 +5,14 @@ use Rattle.std.proofs.lemmas.Option.{cond_some, same_Some}
 use Rattle.std.specs.Prelude.{flat_map, codes}
 use Rattle.std.specs.List.{AllByRecursion}
 use Rattle.journal_meaning.specs.declared.Entry.{Entry}
-use Rattle.text_fields.specs.Spelling.{field, IsNumber}
+use Rattle.texts.specs.fields.Spelling.{field, IsNumber}
 use Rattle.journal_text.specs.Spelling.{line_feed, entry_line, shard_lines}
 use Rattle.journal_text.specs.Written.{IsEntry}
-use Rattle.text_fields.specs.Reading.{◌>>=◌, after_word, field_at}
+use Rattle.texts.specs.fields.Reading.{◌>>=◌, after_word, field_at}
 use Rattle.journal_text.specs.inner.Reading.{behind, entry_at, entries_at, shard_at, shards_at}
-use Rattle.text_fields.proofs.Fields.{bind_some, after_takes, field_takes, field_again}
+use Rattle.texts.proofs.FieldLemmas.{bind_some, after_takes, field_takes, field_again}
 use Rattle.journal_text.proofs.Entries.{behind_some}
-use Rattle.text_fields.proofs.Items.{AreRead, items_take, items_again}
+use Rattle.texts.proofs.Items.{AreRead, items_take, items_again}
 use Rattle.journal_text.proofs.Lines.{spelling}
 
 shard_takes : (i : ℕ) (text : List ℕ) (es : List Entry) (rest : List ℕ) → shard_at i text ≡ Some (es, rest) → (text ≡ field i ++ (line_feed ++ (flat_map entry_line es ++ rest))) × AllByRecursion IsEntry es

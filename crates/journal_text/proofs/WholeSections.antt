@@ -9,12 +9,12 @@ use Rattle.journal_meaning.specs.declared.Entry.{Entry}
 use Rattle.journal_text.specs.declared.sections.SectionKind.{SectionKind}
 use Rattle.journal_text.specs.declared.sections.SectionKind.TheVariants.{Batch, Trim, Held}
 use Rattle.journal_text.specs.declared.sections.Section.{Section}
-use Rattle.text_fields.specs.Spelling.{field, IsNumber}
+use Rattle.texts.specs.fields.Spelling.{field, IsNumber}
 use Rattle.journal_text.specs.Spelling.{line_feed, shard_lines, kind_word, section_lines, head_line, journal_lines}
 use Rattle.journal_text.specs.Written.{IsNumbered, IsSection, most_shards}
-use Rattle.text_fields.specs.Reading.{◌>>=◌, after_word, field_at}
+use Rattle.texts.specs.fields.Reading.{◌>>=◌, after_word, field_at}
 use Rattle.journal_text.specs.inner.Reading.{entry_at, shards_at, kind_at, section_at}
-use Rattle.text_fields.proofs.Fields.{bind_some, after_takes, field_takes, field_again}
+use Rattle.texts.proofs.FieldLemmas.{bind_some, after_takes, field_takes, field_again}
 use Rattle.journal_text.proofs.Entries.{behind_some}
 use Rattle.journal_text.proofs.Shards.{shards_takes, shards_again}
 

@@ -3,7 +3,7 @@ use Rattle.std.specs.Prelude.{ℕ, ◌≡◌, List, ◌++◌}
 use Rattle.std.specs.List.{AllByRecursion}
 use Rattle.journal_text.specs.declared.sections.Section.{Section}
 use Rattle.journal_text.specs.Spelling.{section_lines, journal_lines}
-use Rattle.text_fields.specs.Spelling.{IsNumber}
+use Rattle.texts.specs.fields.Spelling.{IsNumber}
 use Rattle.journal_text.specs.Written.{IsSection}
 
 -- no text begins with the texts of two sections

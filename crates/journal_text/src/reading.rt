@@ -3,14 +3,14 @@ ghost use Rattle.std.specs.Prelude.{◌≡◌, ◌≢◌, ℕ, List, ◌++◌, �
 ghost use Rattle.journal_text.specs.declared.sections.Section.{Section};
 ghost use Rattle.journal_text.specs.Spelling.{section_lines};
 ghost use Rattle.journal_text.specs.Written.{IsSection, most_shards};
-ghost use Rattle.text_fields.specs.Reading.{read_is};
+ghost use Rattle.texts.specs.fields.Reading.{read_is};
 ghost use Rattle.journal_text.specs.inner.Reading.{point_at, cell_at, told_at, claimed_at, filled_at, evicted_at, dropped_at, spent_at, entry_at, entries_at, shard_at, shards_at, kind_at, section_at};
 
 use crate::{EntryList, EntryLists, Section, SectionKind};
 use journal_meaning::Entry;
-use owned_text::OutOfMemory;
 use std::alloc::Global;
-use text_fields::{after, field_of, value_of};
+use texts::OutOfMemory;
+use texts::fields::{after, field_of, value_of};
 use valid_intervals::{Cell, Point, Span};
 
 /// The section whose text stands at the front of the bytes, and the length of that text.

@@ -1,13 +1,13 @@
 //! Writing the head and the entries. The line of an entry is written from its end to its front: each part
 //! is written so that it ends at `end`, where the next part starts, and its own start is returned.
 ghost use Rattle.std.specs.Prelude.{◌≡◌, ◌+◌, ◌≤◌, ◌++◌, length, drop, OnOk, IfOk};
-ghost use Rattle.text_fields.specs.Spelling.{field};
+ghost use Rattle.texts.specs.fields.Spelling.{field};
 ghost use Rattle.journal_text.specs.Spelling.{point, cell, line_feed, entry_line, head_line};
 
 use journal_meaning::Entry;
-use owned_text::OutOfMemory;
 use std::alloc::Global;
-use text_fields::{push_field, write_field};
+use texts::OutOfMemory;
+use texts::fields::{push_field, write_field};
 use valid_intervals::{Cell, Point};
 
 /// The length of the longest line of an entry.

@@ -1,7 +1,7 @@
 -- A shard agrees with its journal after each entry.
 use Rattle.std.proofs.Common.{◌≡◌, Result, Ok, Err, OnOk, OnErr, IfErr, ℕ, ◌%◌, ◌<◌, cond, List, [], ◌∷◌, ◌++◌, refl, ap, ap₂, sym, ◌∙◌, subst, Option, Some, None, option_map, IsSome}
 use Rattle.std.specs.List.{AllByRecursion}
-use Rattle.owned_text.specs.declared.OutOfMemory.{OutOfMemory}
+use Rattle.texts.specs.declared.OutOfMemory.{OutOfMemory}
 use Rattle.std.specs.BTreeMap.{is_at}
 use Rattle.valid_intervals.specs.declared.Cell.{Cell}
 use Rattle.valid_intervals.specs.declared.Point.{Point}
@@ -11,16 +11,16 @@ use Rattle.cell_store.specs.Recency.{Contents, contents, with_cells}
 use Rattle.journal_meaning.specs.declared.Entry.{Entry}
 use Rattle.journal_meaning.specs.declared.Entry.TheVariants as entry
 use Rattle.journal_meaning.specs.States.{State, fresh, holder}
-use Rattle.batch_meaning.specs.Batches.{Batch}
+use Rattle.journal_meaning.specs.Batches.{Batch}
 use Rattle.journal_meaning.specs.Allowed.{IsAt, IsRight}
 use Rattle.circuit_meaning.specs.Cells.{cell_at}
 use Rattle.journal_meaning.proofs.Lists.{each-stands, each-append}
 use Rattle.journal_meaning.proofs.Claims.{holder-claimed}
 use Rattle.journal_meaning.proofs.Named.{Ours, claim_ours}
 use Rattle.journal_meaning.proofs.More.{right-answers}
-use Rattle.batch_meaning.specs.Lawful.{IsLawful}
-use Rattle.strand_meaning.specs.Strands.{next}
-use Rattle.strand_meaning.specs.declared.Next.TheVariants.{Ask}
+use Rattle.journal_meaning.specs.Lawful.{IsLawful}
+use Rattle.plan_machine.specs.Strands.{next}
+use Rattle.plan_machine.specs.declared.strand.Next.TheVariants.{Ask}
 use Rattle.plan_machine.specs.Shards.{Shard, IsShard, shard_with_entry}
 use Rattle.plan_machine.proofs.Shards.{found, told-keeps, claimed-shard}
 use Rattle.claim_waiters.specs.Claims.{WaitedClaim, Claims, IsInOrder, claim_at, holder_in, with_claim, with_waiter, waiters_at}

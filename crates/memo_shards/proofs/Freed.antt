@@ -12,7 +12,7 @@ use Rattle.journal_meaning.specs.declared.Entry.{Entry}
 use Rattle.journal_meaning.specs.declared.Entry.TheVariants as entry
 use Rattle.journal_meaning.specs.States as states
 use Rattle.journal_meaning.specs.States.{fresh, holder}
-use Rattle.batch_meaning.specs.Batches.{Batch}
+use Rattle.journal_meaning.specs.Batches.{Batch}
 use Rattle.journal_meaning.proofs.Claims.{no-claims}
 use Rattle.journal_meaning.proofs.More.{replay-more}
 use Rattle.claim_waiters.specs.Claims.{WaitedClaim, Claims, IsInOrder, claim_at, holder_in, first_of, without_claim}

@@ -3,9 +3,9 @@ use Rattle.std.proofs.Common.{◌≡◌, ℕ, ◌%◌, true, false, cond, List, 
 use Rattle.std.specs.List.{AllByRecursion, AllZip}
 use Rattle.valid_intervals.specs.declared.Point.{Point}
 use Rattle.valid_intervals.specs.Cells.{same_point}
-use Rattle.batch_meaning.specs.Batches.{Batch}
+use Rattle.journal_meaning.specs.Batches.{Batch}
 use Rattle.journal_meaning.proofs.Claims.{cases_point}
-use Rattle.strand_meaning.specs.Strands.{Strand}
+use Rattle.plan_machine.specs.Strands.{Strand}
 use Rattle.plan_machine.specs.inner.Parts.{NumberedStrand}
 use Rattle.plan_machine.specs.inner.KeptPlans as plans
 use Rattle.plan_machine.specs.inner.KeptPlans.{Parked}

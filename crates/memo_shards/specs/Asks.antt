@@ -1,13 +1,13 @@
 -- What an ask comes to.
 use Rattle.std.specs.Prelude.{◌≡◌, ◌<◌, if◌then◌else◌, [], ◌∷◌, ◌++◌, IsSome, Some, None, Result, Ok, Err}
-use Rattle.owned_text.specs.declared.OutOfMemory.{OutOfMemory}
+use Rattle.texts.specs.declared.OutOfMemory.{OutOfMemory}
 use Rattle.valid_intervals.specs.declared.Point.{Point}
 use Rattle.valid_intervals.specs.declared.SignalCell.{SignalCell}
 use Rattle.valid_intervals.specs.Cells.{same_point, stored_at}
 use Rattle.journal_meaning.specs.declared.Entry.TheVariants as entry
 use Rattle.journal_meaning.specs.States.{holder}
-use Rattle.batch_meaning.specs.Batches.{Batch, shard_number}
-use Rattle.strand_meaning.specs.Strands.{after_answer, after_claim, given_up}
+use Rattle.journal_meaning.specs.Batches.{Batch, shard_number}
+use Rattle.plan_machine.specs.Strands.{after_answer, after_claim, given_up}
 use Rattle.plan_machine.specs.Shards.{shard_with_entry}
 use Rattle.demand_points.specs.Demands.{Demand, TakesStep}
 use Rattle.memo_shards.specs.KeptShards.{KeptShard, waiting_at}

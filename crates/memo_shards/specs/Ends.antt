@@ -8,9 +8,9 @@ use Rattle.journal_meaning.specs.declared.Entry.{Entry}
 use Rattle.journal_meaning.specs.declared.Entry.TheVariants as entry
 use Rattle.journal_meaning.specs.States as states
 use Rattle.journal_meaning.specs.States.{holder}
-use Rattle.batch_meaning.specs.Batches.{Batch}
+use Rattle.journal_meaning.specs.Batches.{Batch}
 use Rattle.circuit_meaning.specs.Cells.{cell_at}
-use Rattle.strand_meaning.specs.Strands.{after_answer, after_fill, after_drop}
+use Rattle.plan_machine.specs.Strands.{after_answer, after_fill, after_drop}
 use Rattle.plan_machine.specs.Shards.{Shard, shard_with_entry, filled_shard}
 use Rattle.demand_points.specs.Demands.{Demand, TakesStep}
 use Rattle.memo_shards.specs.KeptShards.{KeptShard, waiting_at}

@@ -6,12 +6,12 @@ use Rattle.valid_intervals.specs.declared.SignalCell.{SignalCell}
 use Rattle.valid_intervals.specs.Cells.{same_point}
 use Rattle.journal_meaning.specs.declared.Entry.{Entry}
 use Rattle.journal_meaning.specs.States.{fresh, holder}
-use Rattle.batch_meaning.specs.Batches.{Batch}
+use Rattle.journal_meaning.specs.Batches.{Batch}
 use Rattle.journal_meaning.specs.Allowed.{IsAt}
 use Rattle.journal_meaning.specs.Replay.{replay}
-use Rattle.batch_meaning.specs.Lawful.{IsLawful}
-use Rattle.strand_meaning.specs.Strands.{next}
-use Rattle.strand_meaning.specs.declared.Next.TheVariants.{Ask}
+use Rattle.journal_meaning.specs.Lawful.{IsLawful}
+use Rattle.plan_machine.specs.Strands.{next}
+use Rattle.plan_machine.specs.declared.strand.Next.TheVariants.{Ask}
 use Rattle.plan_machine.specs.Shards.{Shard, IsShard}
 use Rattle.demand_points.specs.Demands.{Demand}
 

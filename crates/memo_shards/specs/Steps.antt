@@ -1,11 +1,11 @@
 -- A step of a strand at the shard of its point, and what it comes to.
 use Rattle.std.specs.Prelude.{◌≡◌, ◌≢◌, Some, Result, Ok, Err}
-use Rattle.owned_text.specs.declared.OutOfMemory.{OutOfMemory}
+use Rattle.texts.specs.declared.OutOfMemory.{OutOfMemory}
 use Rattle.valid_intervals.specs.declared.Point.{Point}
 use Rattle.journal_meaning.specs.States.{holder}
-use Rattle.batch_meaning.specs.Batches.{Batch}
-use Rattle.strand_meaning.specs.declared.Next.{Next}
-use Rattle.strand_meaning.specs.declared.Next.TheVariants.{Ask, Fill, Drop, Done}
+use Rattle.journal_meaning.specs.Batches.{Batch}
+use Rattle.plan_machine.specs.declared.strand.Next.{Next}
+use Rattle.plan_machine.specs.declared.strand.Next.TheVariants.{Ask, Fill, Drop, Done}
 use Rattle.demand_points.specs.Demands.{Demand}
 use Rattle.memo_shards.specs.declared.steps.Step.{Step}
 use Rattle.memo_shards.specs.declared.steps.Step.TheVariants.{Heard, Holds, Taken, Refused, Filled, Dropped}

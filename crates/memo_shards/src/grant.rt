@@ -7,7 +7,7 @@ use crate::steps::Step;
 use crate::wake::hear_all;
 use demand_points::{BatchName, Strand};
 use design::Design;
-use owned_text::OutOfMemory;
+use texts::OutOfMemory;
 use valid_intervals::{Cell, Point};
 
 /// What a shard grants. The strand has still to follow ([`follow`]).

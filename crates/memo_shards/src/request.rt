@@ -1,13 +1,13 @@
 //! What a strand asks of the shard of its point.
 
 ghost use Rattle.std.specs.Prelude.{◌≡◌, IfSome, None};
-ghost use Rattle.strand_meaning.specs.Strands.{next as next_of};
-ghost use Rattle.strand_meaning.specs.declared.Next.TheVariants.{Done};
+ghost use Rattle.plan_machine.specs.Strands.{next as next_of};
+ghost use Rattle.plan_machine.specs.declared.strand.Next.TheVariants.{Done};
 ghost use Rattle.memo_shards.specs.Grants.{step_of, point_of, IsRequest};
 
 use demand_points::{BatchName, Strand};
 use design::Design;
-use strand_meaning::Next;
+use plan_machine::Next;
 use valid_intervals::{Cell, Point};
 
 /// The next step of a strand, as a shard has to know it.

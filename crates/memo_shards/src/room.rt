@@ -8,7 +8,7 @@ ghost use Rattle.memo_shards.specs.inner.Ends.{after_eviction};
 
 use cell_store::{CellStore, Key};
 use journal_meaning::Entry;
-use owned_text::OutOfMemory;
+use texts::OutOfMemory;
 use valid_intervals::{Cell, Point};
 
 /// Takes room for this many entries, beside the two that the end of each claim may need.

@@ -1,11 +1,11 @@
 //! What comes of a step.
 
 ghost use Rattle.std.specs.Prelude.{◌≡◌, ◌≢◌, IfSome, None};
-ghost use Rattle.strand_meaning.specs.declared.Next.TheVariants.{Done};
+ghost use Rattle.plan_machine.specs.declared.strand.Next.TheVariants.{Done};
 ghost use Rattle.memo_shards.specs.Steps.{step_point};
 
 use demand_points::{BatchName, Strand};
-use strand_meaning::Next;
+use plan_machine::Next;
 use valid_intervals::Point;
 
 /// What came of a step. The strand stays in hand.

@@ -3,7 +3,7 @@
 ghost use Rattle.std.specs.Prelude.{◌≡◌};
 ghost use Rattle.std.specs.List.{AllByRecursion, AllZip};
 ghost use Rattle.demand_points.specs.Demands.{IsAskedCell, TakesStep};
-ghost use Rattle.strand_meaning.specs.Strands.{after_answer};
+ghost use Rattle.plan_machine.specs.Strands.{after_answer};
 
 use demand_points::{BatchName, Strand};
 use design::Design;

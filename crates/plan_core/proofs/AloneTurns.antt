@@ -14,12 +14,12 @@ use Rattle.circuit_meaning.specs.declared.Window.{Window}
 use Rattle.journal_meaning.specs.declared.Entry.TheVariants as entry
 use Rattle.journal_meaning.specs.States.{holder}
 use Rattle.journal_meaning.specs.Counts.{booked_count}
-use Rattle.batch_meaning.specs.declared.Query.{Query}
-use Rattle.batch_meaning.specs.Batches.{Batch}
-use Rattle.strand_meaning.specs.declared.Next.{Next}
-use Rattle.strand_meaning.specs.declared.Next.TheVariants.{Ask, Fill, Drop, Done}
-use Rattle.strand_meaning.specs.Strands.{Frame, Strand, roots_from, is_evaluable, next_in, next, after_answer, after_claim, given_up, after_drop, after_fill, IsOnStack}
-use Rattle.strand_meaning.proofs.Stacks.{asks-first, asks-unspent, fill-top, drop-top, top-held, earlier}
+use Rattle.journal_meaning.specs.declared.batch.Query.{Query}
+use Rattle.journal_meaning.specs.Batches.{Batch}
+use Rattle.plan_machine.specs.declared.strand.Next.{Next}
+use Rattle.plan_machine.specs.declared.strand.Next.TheVariants.{Ask, Fill, Drop, Done}
+use Rattle.plan_machine.specs.Strands.{Frame, Strand, roots_from, is_evaluable, next_in, next, after_answer, after_claim, given_up, after_drop, after_fill, IsOnStack}
+use Rattle.plan_machine.proofs.Stacks.{asks-first, asks-unspent, fill-top, drop-top, top-held, earlier}
 use Rattle.plan_machine.specs.Shards.{Shard, shard_with_entry, filled_shard}
 use Rattle.plan_machine.specs.Plans.{Plan, no_shard, home, shard_of, claim_of}
 use Rattle.plan_machine.specs.declared.Turned.{Turned}

@@ -12,10 +12,10 @@ use Rattle.journal_meaning.specs.States.{fresh, holder}
 use Rattle.journal_meaning.specs.Replay.{replay}
 use Rattle.journal_meaning.proofs.Named.{claims_ours, none_ours}
 use Rattle.journal_meaning.proofs.Grown.{children-kept}
-use Rattle.batch_meaning.specs.Batches.{Batch}
-use Rattle.batch_meaning.specs.Lawful.{IsLawful}
-use Rattle.batch_meaning.specs.Pieces.{Start}
-use Rattle.strand_meaning.specs.Strands.{Frame, Strand, is_evaluable, roots_from, started_strand, IsOnStack, IsStrand}
+use Rattle.journal_meaning.specs.Batches.{Batch}
+use Rattle.journal_meaning.specs.Lawful.{IsLawful}
+use Rattle.journal_meaning.specs.Pieces.{Start}
+use Rattle.plan_machine.specs.Strands.{Frame, Strand, is_evaluable, roots_from, started_strand, IsOnStack, IsStrand}
 use Rattle.plan_machine.specs.Shards.{Shard, IsShard}
 use Rattle.plan_machine.specs.Plans.{Plan, no_shard, claim_of}
 use Rattle.plan_machine.specs.declared.Turned.{Turned}

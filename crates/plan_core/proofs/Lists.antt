@@ -3,7 +3,7 @@ use Rattle.std.proofs.Common.{◌≡◌, ℕ, zero, suc, ◌+◌, ◌<◌, List,
 use Rattle.std.proofs.Math.ListN.{length-set}
 use Rattle.std.proofs.lemmas.List.{map-set}
 use Rattle.std.proofs.lemmas.Bool.{cases_eq}
-use Rattle.strand_meaning.specs.Strands.{Strand}
+use Rattle.plan_machine.specs.Strands.{Strand}
 use Rattle.plan_machine.specs.Plans.{itself}
 use Rattle.plan_machine.specs.inner.Parts.{NumberedStrand, IsAmong, put_back}
 use Rattle.plan_machine.proofs.Links.{set-here, set-other}

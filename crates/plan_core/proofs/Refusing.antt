@@ -1,15 +1,15 @@
 -- A strand that was refused a point.
 use Rattle.std.proofs.Common.{◌≡◌, ℕ, ◌%◌, Bool, true, false, cond, List, length, map, get_or, slice_get, slice_set, refl, ap, sym, ◌∙◌, subst, Option, Some, None, Result, Ok, Err, OnOk, OnErr}
-use Rattle.owned_text.specs.declared.OutOfMemory.{OutOfMemory}
+use Rattle.texts.specs.declared.OutOfMemory.{OutOfMemory}
 use Rattle.valid_intervals.specs.declared.Point.{Point}
 use Rattle.valid_intervals.specs.declared.SignalCell.{SignalCell}
 use Rattle.journal_meaning.specs.declared.Entry.TheVariants as entry
 use Rattle.journal_meaning.specs.States.{holder}
-use Rattle.batch_meaning.specs.Batches.{Batch}
-use Rattle.strand_meaning.specs.declared.Next.{Next}
-use Rattle.strand_meaning.specs.declared.Next.TheVariants.{Ask, Fill, Drop, Done}
-use Rattle.strand_meaning.specs.Strands.{Strand, next, next_in, given_up}
-use Rattle.strand_meaning.proofs.Stacks.{asks-unspent}
+use Rattle.journal_meaning.specs.Batches.{Batch}
+use Rattle.plan_machine.specs.declared.strand.Next.{Next}
+use Rattle.plan_machine.specs.declared.strand.Next.TheVariants.{Ask, Fill, Drop, Done}
+use Rattle.plan_machine.specs.Strands.{Strand, next, next_in, given_up}
+use Rattle.plan_machine.proofs.Stacks.{asks-unspent}
 use Rattle.plan_machine.specs.declared.Turned.TheVariants as comes
 use Rattle.plan_machine.specs.Shards.{Shard, IsShard, shard_with_entry}
 use Rattle.valid_intervals.specs.Cells.{stored_at}

@@ -1,9 +1,9 @@
 -- The turn of a strand that waits or has ended.
 use Rattle.std.proofs.Common.{◌≡◌, ℕ, ◌<◌, true, false, arith, List, length, ◌∙◌, slice_get, refl, ap, sym, subst, Option, Some, None, Ok}
 use Rattle.valid_intervals.specs.declared.SignalCell.{SignalCell}
-use Rattle.batch_meaning.specs.Batches.{Batch}
-use Rattle.strand_meaning.specs.declared.Next.TheVariants.{Done}
-use Rattle.strand_meaning.specs.Strands.{Strand, waiting}
+use Rattle.journal_meaning.specs.Batches.{Batch}
+use Rattle.plan_machine.specs.declared.strand.Next.TheVariants.{Done}
+use Rattle.plan_machine.specs.Strands.{Strand, waiting}
 use Rattle.plan_machine.specs.declared.Turned.TheVariants as comes
 use Rattle.plan_machine.specs.Plans.{Plan}
 use Rattle.plan_machine.specs.Steps.{Rest, turned_by}

@@ -2,11 +2,11 @@
 use Rattle.std.proofs.Common.{◌≡◌, ◌≢◌, ℕ, ◌<◌, false, length, slice_get, refl, sym, ap, subst, ◌∙◌, arith, List, Option, Some}
 use Rattle.valid_intervals.specs.declared.Point.{Point}
 use Rattle.valid_intervals.specs.declared.SignalCell.{SignalCell}
-use Rattle.batch_meaning.specs.Batches.{Batch}
-use Rattle.batch_meaning.specs.Lawful.{IsLawful}
-use Rattle.strand_meaning.specs.declared.Next.TheVariants.{Ask}
-use Rattle.strand_meaning.specs.Strands.{Strand, next_in, given_up}
-use Rattle.batch_meaning.specs.Pieces.{Start}
+use Rattle.journal_meaning.specs.Batches.{Batch}
+use Rattle.journal_meaning.specs.Lawful.{IsLawful}
+use Rattle.plan_machine.specs.declared.strand.Next.TheVariants.{Ask}
+use Rattle.plan_machine.specs.Strands.{Strand, next_in, given_up}
+use Rattle.journal_meaning.specs.Pieces.{Start}
 use Rattle.plan_machine.specs.Plans.{Plan}
 use Rattle.plan_machine.specs.declared.Turned.{Turned}
 use Rattle.plan_machine.specs.declared.Turned.TheVariants as comes

@@ -1,14 +1,14 @@
 -- The turn of a strand that makes a step at the shard of its point.
 use Rattle.std.proofs.Common.{◌≡◌, ◌≢◌, ℕ, ◌≤◌, ◌%◌, ◌++◌, false, List, [], ◌∷◌, length, get_or, slice_get, slice_set, refl, ap, sym, ◌∙◌, subst, arith, Option, Some, None, IsSome, Result, Ok, Err, ◌<◌, map}
 use Rattle.std.proofs.lemmas.List.{map-set}
-use Rattle.owned_text.specs.declared.OutOfMemory.{OutOfMemory}
+use Rattle.texts.specs.declared.OutOfMemory.{OutOfMemory}
 use Rattle.valid_intervals.specs.declared.Point.{Point}
 use Rattle.valid_intervals.specs.declared.SignalCell.{SignalCell}
 use Rattle.journal_meaning.specs.declared.Entry.TheVariants as entry
 use Rattle.journal_meaning.specs.States.{holder}
-use Rattle.batch_meaning.specs.Batches.{Batch, shard_number}
-use Rattle.strand_meaning.specs.declared.Next.TheVariants.{Ask, Fill, Drop, Done}
-use Rattle.strand_meaning.specs.Strands.{Strand, next, after_answer, after_claim, waiting, given_up, after_fill, after_drop, IsOnStack}
+use Rattle.journal_meaning.specs.Batches.{Batch, shard_number}
+use Rattle.plan_machine.specs.declared.strand.Next.TheVariants.{Ask, Fill, Drop, Done}
+use Rattle.plan_machine.specs.Strands.{Strand, next, after_answer, after_claim, waiting, given_up, after_fill, after_drop, IsOnStack}
 use Rattle.plan_machine.specs.declared.Turned.{Turned}
 use Rattle.plan_machine.specs.declared.Turned.TheVariants as comes
 use Rattle.plan_machine.specs.Shards.{Shard, shard_with_entry, filled_shard}
@@ -34,12 +34,12 @@ use Rattle.plan_core.proofs.Seen.{here, in-plan, awake, home, homes, shard-here,
 use Rattle.std.proofs.Math.ListN.{length-map, length-set}
 use Rattle.std.proofs.lemmas.Option.{get_or_from_slice_get, slice_get_within}
 use Rattle.circuit_meaning.specs.Cells.{cell_at}
-use Rattle.strand_meaning.specs.Strands as strands
-use Rattle.strand_meaning.proofs.Stacks.{fill-top, drop-top, top-held}
+use Rattle.plan_machine.specs.Strands as strands
+use Rattle.plan_machine.proofs.Stacks.{fill-top, drop-top, top-held}
 use Rattle.plan_machine.specs.Turns.{turn}
 use Rattle.plan_machine.proofs.Parts.{heard-fits}
 use Rattle.memo_shards.specs.Ends.{FillsIt, DropsIt, LeavesNone}
-use Rattle.strand_meaning.specs.declared.Next.{Next}
+use Rattle.plan_machine.specs.declared.strand.Next.{Next}
 use Rattle.std.specs.Global.{Vec}
 use Rattle.memo_shards.specs.Steps.{MayStep, step_point}
 

@@ -4,8 +4,8 @@ use Rattle.circuit_meaning.specs.Circuit.{Circuit}
 use Rattle.journal_meaning.specs.declared.Entry.{Entry}
 use Rattle.journal_meaning.specs.Answers.{ChildrenCovered}
 use Rattle.journal_meaning.specs.Counts.{booked_count}
-use Rattle.batch_meaning.specs.Pieces.{Start}
-use Rattle.strand_meaning.specs.Strands.{Strand, started_strand}
+use Rattle.journal_meaning.specs.Pieces.{Start}
+use Rattle.plan_machine.specs.Strands.{Strand, started_strand}
 use Rattle.plan_machine.specs.Sound.{HasEnded}
 use Rattle.demand_points.specs.declared.strand.Task.{Task}
 use Rattle.demand_points.specs.Demands.{Demand}

@@ -1,8 +1,8 @@
 -- The parts of a plan, and what they preserve.
 use Rattle.std.specs.Prelude.{◌≡◌, ℕ, false, List, [], length, map, slice_get, Some}
 use Rattle.std.specs.List.{AllByRecursion}
-use Rattle.batch_meaning.specs.Batches.{Batch}
-use Rattle.strand_meaning.specs.Strands.{Strand, IsStrand}
+use Rattle.journal_meaning.specs.Batches.{Batch}
+use Rattle.plan_machine.specs.Strands.{Strand, IsStrand}
 use Rattle.plan_machine.specs.Shards.{Shard}
 use Rattle.plan_machine.specs.Plans.{Plan}
 use Rattle.demand_points.specs.Demands.{Demand}

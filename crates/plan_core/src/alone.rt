@@ -1,10 +1,10 @@
 //! A strand that runs alone.
 
 ghost use Rattle.std.specs.Prelude.{◌≡◌, ◌<◌, ℕ, true, false, length, slice_get, IfOk, IfSome, OnOk, OnErr, Some, None};
-ghost use Rattle.batch_meaning.specs.Lawful.{IsLawful};
-ghost use Rattle.strand_meaning.specs.declared.Next.TheVariants.{Ask};
-ghost use Rattle.batch_meaning.specs.Pieces.{Start};
-ghost use Rattle.strand_meaning.specs.Strands.{Strand as MachineStrand, next, next_in};
+ghost use Rattle.journal_meaning.specs.Lawful.{IsLawful};
+ghost use Rattle.plan_machine.specs.declared.strand.Next.TheVariants.{Ask};
+ghost use Rattle.journal_meaning.specs.Pieces.{Start};
+ghost use Rattle.plan_machine.specs.Strands.{Strand as MachineStrand, next, next_in};
 ghost use Rattle.journal_meaning.specs.declared.Entry.TheVariants as entry;
 ghost use Rattle.plan_machine.specs.Shards.{shard_with_entry};
 ghost use Rattle.memo_shards.specs.KeptShards.{IsKnownShard};
@@ -19,8 +19,8 @@ use crate::paused::Paused;
 use crate::places::{next_at, strand_at};
 use demand_points::{BatchName, Strand};
 use memo_shards::{Shard, shard_number};
-use owned_text::OutOfMemory;
-use strand_meaning::Next;
+use plan_machine::Next;
+use texts::OutOfMemory;
 use valid_intervals::Point;
 
 /// How a strand that ran alone ended.

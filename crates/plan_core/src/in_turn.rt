@@ -1,7 +1,7 @@
 //! Strands that run one after another, each alone over the shards.
 
 ghost use Rattle.std.specs.Prelude.{◌≡◌, ◌<◌, ◌≤◌, ◌+◌, ℕ, All, Any, IfOk, IsSome, None, Some, [], false, length, map, true};
-ghost use Rattle.batch_meaning.specs.Lawful.{IsLawful};
+ghost use Rattle.journal_meaning.specs.Lawful.{IsLawful};
 ghost use Rattle.plan_machine.specs.Settle.{entries_in};
 ghost use Rattle.plan_machine.specs.Sound.{IsFresh};
 ghost use Rattle.plan_core.specs.Parts.{AreFree, AreInOrder, shards_in};
@@ -11,8 +11,8 @@ ghost use Rattle.plan_core.specs.inner.InTurn.{IsAlone, IsWithin, KeepsTask, OfT
 use demand_points::{BatchName, Strand};
 use design::Design;
 use memo_shards::{Shard, Step, know_all, shard_number, step_point};
-use owned_text::OutOfMemory;
 use plan_machine::Turned;
+use texts::OutOfMemory;
 
 // One turn of a strand that is alone over the shards.
 fn turn<B: BatchName>(

@@ -32,6 +32,7 @@
 #![tactic(auto)]
 
 mod alone;
+pub mod asked;
 mod in_turn;
 mod paused;
 mod places;

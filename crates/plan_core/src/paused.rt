@@ -1,16 +1,16 @@
 //! A strand between its steps.
 
 ghost use Rattle.std.specs.Prelude.{◌≡◌};
-ghost use Rattle.strand_meaning.specs.Strands.{next};
+ghost use Rattle.plan_machine.specs.Strands.{next};
 ghost use Rattle.demand_points.specs.Demands.{TakesStep, itself};
 ghost use Rattle.memo_shards.specs.Steps.{MayStep, OfStep};
 
 use demand_points::{BatchName, Strand};
 use design::Design;
 use memo_shards::{Shard, Step};
-use owned_text::OutOfMemory;
+use plan_machine::Next;
 use std::marker::Model;
-use strand_meaning::Next;
+use texts::OutOfMemory;
 
 /// A strand that has heard all base answers, with its next step.
 #[derive(Drop)]
@@ -22,7 +22,7 @@ pub struct Paused<B: BatchName> {
 impl<B: BatchName> Model for Paused<B> {
     ghost use Rattle.std.specs.Prelude.{◌≡◌};
     ghost use Rattle.demand_points.specs.Demands.{Demand};
-    ghost use Rattle.strand_meaning.specs.Strands.{next};
+    ghost use Rattle.plan_machine.specs.Strands.{next};
 
     ghost Value = { Demand };
 

@@ -10,9 +10,9 @@ ghost use Rattle.plan_core.specs.inner.Places.{seats, tags, tag_of, AreNumbered,
 use crate::paused::Paused;
 use demand_points::{BatchName, Strand};
 use design::Design;
-use owned_text::OutOfMemory;
+use plan_machine::Next;
 use std::alloc::Global;
-use strand_meaning::Next;
+use texts::OutOfMemory;
 
 /// The next step of the strand in a place.
 pub fn next_at<B: BatchName>(places: &[Option<Paused<B>>], number: usize) -> Option<Next>

@@ -1,15 +1,15 @@
 //! The plan.
 
 ghost use Rattle.std.specs.Prelude.{◌≡◌, ◌<◌, ℕ, true, false, length, slice_get, IfOk, OnOk, OnErr, Some};
-ghost use Rattle.batch_meaning.specs.Lawful.{IsLawful};
-ghost use Rattle.batch_meaning.specs.Pieces.{Start};
-ghost use Rattle.strand_meaning.specs.Strands.{started_strand, Strand as MachineStrand};
+ghost use Rattle.journal_meaning.specs.Lawful.{IsLawful};
+ghost use Rattle.journal_meaning.specs.Pieces.{Start};
+ghost use Rattle.plan_machine.specs.Strands.{started_strand, Strand as MachineStrand};
 ghost use Rattle.plan_machine.specs.Plans.{Plan as PlanRecord};
 ghost use Rattle.plan_machine.specs.Laws.{BeginsAlone};
 ghost use Rattle.plan_machine.specs.Alone.{plan_refusing, RunsAlone, RanAlone};
 ghost use Rattle.plan_core.specs.inner.Refusals.{IsRefusedAt, AsksFor};
 ghost use Rattle.plan_core.specs.Refusals.{point_of, StopsAlone};
-ghost use Rattle.strand_meaning.specs.declared.Next.TheVariants.{Ask};
+ghost use Rattle.plan_machine.specs.declared.strand.Next.TheVariants.{Ask};
 ghost use Rattle.valid_intervals.specs.declared.Point.{Point as PointRecord};
 ghost use Rattle.plan_machine.specs.Steps.{turn_outcome};
 ghost use Rattle.plan_machine.specs.Turns.{turn};
@@ -25,10 +25,10 @@ use crate::turns;
 use demand_points::{BatchName, Strand};
 use design::Design;
 use memo_shards::{Shard, know_all};
-use owned_text::OutOfMemory;
 use plan_machine::Turned;
 use std::alloc::Global;
 use std::marker::Model;
+use texts::OutOfMemory;
 use valid_intervals::Point;
 
 /// The strands of a batch, each ready, waiting or ended, and the shards.

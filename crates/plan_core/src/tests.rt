@@ -2,17 +2,16 @@
 //! leaves want of memory open, so no proof says that a strand ever waits or is woken.
 
 ghost use Rattle.std.specs.Prelude.{◌≡◌, ◌<◌, ◌≤◌, ◌+◌, IsTrue, [], ◌∷◌, length, Contains, None, IfOk};
-ghost use Rattle.batch_meaning.specs.Lawful.{IsLawful};
+ghost use Rattle.journal_meaning.specs.Lawful.{IsLawful};
 ghost use Rattle.plan_core.specs.Parts.{IsFreshStrand};
 
 use crate::Plan;
-use batch_meaning::Query;
 use bench_reader::read_bench;
 use cell_store::CellStore;
 use demand_points::{BatchName, Strand};
 use design::Design;
 use gate_values::Value;
-use journal_meaning::Entry;
+use journal_meaning::{Entry, Query};
 use memo_shards::Shard;
 use plan_machine::Turned;
 use std::alloc::Global;

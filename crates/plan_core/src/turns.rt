@@ -2,8 +2,8 @@
 
 ghost use Rattle.std.specs.Prelude.{◌≡◌, ◌<◌, IsSome, Some, None, length};
 ghost use Rattle.journal_meaning.specs.States.{holder};
-ghost use Rattle.strand_meaning.specs.Strands.{next};
-ghost use Rattle.strand_meaning.specs.declared.Next.TheVariants.{Ask};
+ghost use Rattle.plan_machine.specs.Strands.{next};
+ghost use Rattle.plan_machine.specs.declared.strand.Next.TheVariants.{Ask};
 ghost use Rattle.valid_intervals.specs.Cells.{stored_at};
 ghost use Rattle.demand_points.specs.Demands.{Demand};
 ghost use Rattle.memo_shards.specs.KeptShards.{IsKnownShard};
@@ -16,8 +16,8 @@ use crate::places::{next_at, put_back};
 use demand_points::{BatchName, Strand};
 use design::Design;
 use memo_shards::{Shard, Step, shard_number, step_point};
-use owned_text::OutOfMemory;
 use plan_machine::Turned;
+use texts::OutOfMemory;
 use valid_intervals::Point;
 
 /// The result of a turn, and the strands that came out of a claim if it ended one.

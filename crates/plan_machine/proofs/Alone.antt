@@ -9,22 +9,22 @@ use Rattle.valid_intervals.specs.Cells.{covers, cell_for, stored_at}
 use Rattle.circuit_meaning.specs.Need.{children}
 use Rattle.journal_meaning.specs.declared.Entry.{Entry}
 use Rattle.journal_meaning.specs.declared.Entry.TheVariants.{Told, Filled, Dropped, Spent}
-use Rattle.batch_meaning.specs.declared.Query.{Query}
+use Rattle.journal_meaning.specs.declared.batch.Query.{Query}
 use Rattle.journal_meaning.specs.States.{holder}
-use Rattle.batch_meaning.specs.Batches.{Batch}
+use Rattle.journal_meaning.specs.Batches.{Batch}
 use Rattle.circuit_meaning.specs.Cells.{cell_at}
 use Rattle.journal_meaning.specs.Answers.{IsCovered, last_of, fill_count}
 use Rattle.journal_meaning.specs.Grown.{IsSaid, IsFor, refusals, AreAdded}
 use Rattle.journal_meaning.proofs.Claims.{own-covers}
 use Rattle.journal_meaning.proofs.Lists.{Each, Differ, each-left, pairs_from, pairs_to}
 use Rattle.journal_meaning.proofs.Grown.{added-more, covered-now, last-now}
-use Rattle.batch_meaning.specs.Lawful.{IsLawful}
-use Rattle.strand_meaning.specs.declared.Next.{Next}
-use Rattle.strand_meaning.specs.declared.Next.TheVariants.{Ask, Fill, Drop, Done}
-use Rattle.strand_meaning.specs.Strands.{Frame, Strand, ask_or, next_in, next, rest, after_answer, after_claim, given_up, after_drop, after_fill, IsOnStack, IsStrand, left_in, IsFirst, IsChain}
-use Rattle.batch_meaning.specs.Pieces.{Start}
-use Rattle.strand_meaning.proofs.Stacks.{IsTop, asks-first, asks-unspent, fill-top, fill-heard, drop-top, top-held, earlier}
-use Rattle.strand_meaning.proofs.Wanted.{held-within}
+use Rattle.journal_meaning.specs.Lawful.{IsLawful}
+use Rattle.plan_machine.specs.declared.strand.Next.{Next}
+use Rattle.plan_machine.specs.declared.strand.Next.TheVariants.{Ask, Fill, Drop, Done}
+use Rattle.plan_machine.specs.Strands.{Frame, Strand, ask_or, next_in, next, rest, after_answer, after_claim, given_up, after_drop, after_fill, IsOnStack, IsStrand, left_in, IsFirst, IsChain}
+use Rattle.journal_meaning.specs.Pieces.{Start}
+use Rattle.plan_machine.proofs.Stacks.{IsTop, asks-first, asks-unspent, fill-top, fill-heard, drop-top, top-held, earlier}
+use Rattle.plan_machine.proofs.Wanted.{held-within}
 use Rattle.plan_machine.specs.Shards.{Shard, shard_with_entry, IsShard}
 use Rattle.plan_machine.specs.Plans.{Plan, home, shard_of, claim_of, with_shard, woken_strand, itself}
 use Rattle.plan_machine.specs.Steps as steps

@@ -2,11 +2,11 @@
 use Rattle.std.proofs.Common.{◌≡◌, ◌≢◌, ℕ, ◌&&◌, true, map, slice_get, refl, ap, ◌∙◌, inl, inr, Option, Some, None, cond}
 use Rattle.std.proofs.lemmas.Bool.{cases_Bool, and_from, and_parts}
 use Rattle.valid_intervals.specs.declared.Point.{Point}
-use Rattle.batch_meaning.specs.Batches.{Batch}
+use Rattle.journal_meaning.specs.Batches.{Batch}
 use Rattle.journal_meaning.proofs.Claims.{cases_point}
-use Rattle.strand_meaning.specs.declared.Next.{Next}
-use Rattle.strand_meaning.specs.declared.Next.TheVariants.{Ask, Fill, Drop, Done}
-use Rattle.strand_meaning.specs.Strands.{Strand, next, after_answer, awake, after_drop, after_fill}
+use Rattle.plan_machine.specs.declared.strand.Next.{Next}
+use Rattle.plan_machine.specs.declared.strand.Next.TheVariants.{Ask, Fill, Drop, Done}
+use Rattle.plan_machine.specs.Strands.{Strand, next, after_answer, awake, after_drop, after_fill}
 use Rattle.plan_machine.specs.Plans.{Plan, asks, woken_strand, itself}
 use Rattle.plan_machine.specs.Steps.{Finish, GiveBack, step_at}
 use Rattle.plan_machine.specs.Turns.{plan_after, turn_at, turn}

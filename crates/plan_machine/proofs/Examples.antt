@@ -17,13 +17,13 @@ use Rattle.circuit_meaning.specs.declared.Pin.{Pin}
 use Rattle.circuit_meaning.specs.Forward.{rows_below, row_at, last_setting, value}
 use Rattle.circuit_meaning.specs.Cells.{span, least_delay, next_setting}
 use Rattle.circuit_meaning.specs.Need.{children, First}
-use Rattle.batch_meaning.specs.declared.Query.{Query}
+use Rattle.journal_meaning.specs.declared.batch.Query.{Query}
 use Rattle.journal_meaning.specs.declared.Entry.TheVariants as entries
-use Rattle.batch_meaning.specs.Batches.{Batch}
-use Rattle.batch_meaning.specs.Lawful.{IsLawful}
-use Rattle.strand_meaning.specs.declared.Next.TheVariants.{Done}
-use Rattle.batch_meaning.specs.Pieces.{Start, IsStart}
-use Rattle.strand_meaning.specs.Strands.{next, asked_children, roots_from}
+use Rattle.journal_meaning.specs.Batches.{Batch}
+use Rattle.journal_meaning.specs.Lawful.{IsLawful}
+use Rattle.plan_machine.specs.declared.strand.Next.TheVariants.{Done}
+use Rattle.journal_meaning.specs.Pieces.{Start, IsStart}
+use Rattle.plan_machine.specs.Strands.{next, asked_children, roots_from}
 use Rattle.plan_machine.specs.declared.Turned.{Turned}
 use Rattle.plan_machine.specs.declared.Turned.TheVariants.{Claimed, Waits, Spent, Filled, Dropped, NotReady}
 use Rattle.plan_machine.specs.Shards.{Shard, IsShard}

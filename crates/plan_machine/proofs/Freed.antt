@@ -7,18 +7,18 @@ use Rattle.valid_intervals.specs.declared.Point.{Point}
 use Rattle.valid_intervals.specs.declared.SignalCell.{SignalCell}
 use Rattle.journal_meaning.specs.declared.Entry.{Entry}
 use Rattle.journal_meaning.specs.declared.Entry.TheVariants.{Told, Claimed, Filled, Evicted, Dropped, Spent}
-use Rattle.batch_meaning.specs.declared.Query.{Query}
+use Rattle.journal_meaning.specs.declared.batch.Query.{Query}
 use Rattle.journal_meaning.specs.States.{Claim, holder, without_point}
 use Rattle.journal_meaning.specs.States as states
 use Rattle.journal_meaning.specs.Replay.{replay, IsAtEnd, IsLegalBatch}
-use Rattle.batch_meaning.specs.Batches.{Batch}
+use Rattle.journal_meaning.specs.Batches.{Batch}
 use Rattle.journal_meaning.specs.inner.Grown.{IsHome, AreHome}
 use Rattle.journal_meaning.specs.Grown.{is_spent_of, refusals, GrowsBy, AreAdded}
 use Rattle.journal_meaning.proofs.Claims.{holder-each, holder-without, without-other, cases_point}
 use Rattle.journal_meaning.proofs.Named.{Ours, claims_ours, none_ours}
 use Rattle.journal_meaning.proofs.Lists.{Each, each-imply}
 use Rattle.journal_meaning.proofs.Grown.{added-each, added-more, count-none, refusals-more, legal-home}
-use Rattle.batch_meaning.specs.Lawful.{IsLawful}
+use Rattle.journal_meaning.specs.Lawful.{IsLawful}
 use Rattle.circuit_meaning.specs.Circuit.{Circuit}
 use Rattle.plan_machine.specs.Shards.{Shard, IsShard, shard_with_entry}
 use Rattle.plan_machine.specs.Plans.{no_shard}

@@ -15,9 +15,9 @@ use Rattle.valid_intervals.proofs.Same.{same_point-itself}
 use Rattle.journal_meaning.proofs.Claims.{cases_point}
 use Rattle.journal_meaning.proofs.Lists.{Each, Differ, each-append, each-left, pairs_to}
 use Rattle.journal_meaning.proofs.Grown.{last-append, last-none, count-append, count-none}
-use Rattle.strand_meaning.specs.Strands.{Frame, Strand, asked_children, rest, given_up, after_drop, IsOnStack, left_in, IsFirst, IsChain}
-use Rattle.batch_meaning.specs.Pieces.{Start}
-use Rattle.strand_meaning.proofs.Stacks.{IsTop, length-rest, earlier}
+use Rattle.plan_machine.specs.Strands.{Frame, Strand, asked_children, rest, given_up, after_drop, IsOnStack, left_in, IsFirst, IsChain}
+use Rattle.journal_meaning.specs.Pieces.{Start}
+use Rattle.plan_machine.proofs.Stacks.{IsTop, length-rest, earlier}
 use Rattle.plan_machine.specs.Alone.{AreFed, IsUnspent, points_on, drops, IsUnderWay, IsGivingUp}
 use Rattle.plan_machine.proofs.Underway.{IsNoFill, none-filled, none-refused, said-all, each-contains, contains-cases, contains-none}
 

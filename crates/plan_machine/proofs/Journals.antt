@@ -9,14 +9,14 @@ use Rattle.valid_intervals.specs.Cells.{cell_for, is_stored, last_cell}
 use Rattle.journal_meaning.specs.declared.Entry.{Entry}
 use Rattle.journal_meaning.specs.declared.Entry.TheVariants.{Told, Claimed, Filled, Evicted, Dropped}
 use Rattle.journal_meaning.specs.States.{fresh}
-use Rattle.batch_meaning.specs.Batches.{Batch}
+use Rattle.journal_meaning.specs.Batches.{Batch}
 use Rattle.circuit_meaning.specs.Cells.{cell_at}
 use Rattle.journal_meaning.specs.Grown.{IsFor, AreAdded}
 use Rattle.journal_meaning.specs.inner.Grown.{IsHome, AreHome}
 use Rattle.journal_meaning.proofs.Lists.{Each, each-append}
 use Rattle.journal_meaning.proofs.Grown.{added-one, added-none, added-more, legal-home}
-use Rattle.batch_meaning.specs.Lawful.{IsLawful}
-use Rattle.strand_meaning.specs.Strands.{Strand, after_answer, awake}
+use Rattle.journal_meaning.specs.Lawful.{IsLawful}
+use Rattle.plan_machine.specs.Strands.{Strand, after_answer, awake}
 use Rattle.plan_machine.specs.Shards.{Shard, shard_with_entry, shard_without_cell, with_room, filled_shard}
 use Rattle.plan_machine.specs.Plans.{Plan, no_shard, home, shard_of, woken_strand, itself}
 use Rattle.plan_machine.specs.Steps as steps

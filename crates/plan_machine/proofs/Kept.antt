@@ -6,9 +6,9 @@ use Rattle.std.proofs.lemmas.List.{get_or-set_same, get_or-set_other, map-set}
 use Rattle.std.proofs.lemmas.Bool.{cases_eq, cases_Bool}
 use Rattle.std.proofs.lemmas.Option.{slice_get_within}
 use Rattle.valid_intervals.specs.declared.Point.{Point}
-use Rattle.strand_meaning.specs.declared.Next.TheVariants.{Ask}
+use Rattle.plan_machine.specs.declared.strand.Next.TheVariants.{Ask}
 use Rattle.valid_intervals.specs.Cells.{same_point}
-use Rattle.strand_meaning.specs.Strands.{Strand, next, waiting, awake}
+use Rattle.plan_machine.specs.Strands.{Strand, next, waiting, awake}
 use Rattle.plan_machine.specs.Shards.{Shard}
 use Rattle.plan_machine.specs.Plans.{Plan, no_shard, shard_of, woken_strand, with_shard}
 use Rattle.plan_machine.specs.inner.Parts.{NumberedStrand, IsAmong, AreParts, put_back, with_waiters, strands_from}

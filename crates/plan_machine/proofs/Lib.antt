@@ -19,3 +19,6 @@ pub mod AloneRuns
 pub mod Settle
 pub mod Settling
 pub mod Freed
+pub mod Stacks
+pub mod Wanted
+pub mod Started

@@ -2,8 +2,8 @@
 use Rattle.std.proofs.Common.{◌≡◌, ℕ, zero, suc, ◌⊎◌, true, List, [], ◌∷◌, map, slice_get, slice_set, refl, ap, sym, ◌∙◌, subst, inl, inr, Option, Some}
 use Rattle.std.proofs.lemmas.Bool.{cases_eq}
 use Rattle.valid_intervals.specs.declared.Point.{Point}
-use Rattle.strand_meaning.specs.declared.Next.TheVariants.{Ask}
-use Rattle.strand_meaning.specs.Strands.{Strand, next, IsOnStack}
+use Rattle.plan_machine.specs.declared.strand.Next.TheVariants.{Ask}
+use Rattle.plan_machine.specs.Strands.{Strand, next, IsOnStack}
 use Rattle.plan_machine.specs.Sound.{AreLinked}
 
 -- the strands ys are xs, where strand i, which was s, is now b, and f was done to each other strand

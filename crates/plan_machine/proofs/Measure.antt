@@ -12,20 +12,20 @@ use Rattle.valid_intervals.specs.declared.Point.{Point}
 use Rattle.circuit_meaning.specs.declared.Pin.{Pin}
 use Rattle.circuit_meaning.specs.Circuit.{Circuit, Driver, Input, Gate, Flop, driver}
 use Rattle.circuit_meaning.specs.Forward.{seen_value, value}
-use Rattle.flip_flops.specs.Edges.{shown_edge}
+use Rattle.circuit_meaning.specs.Edges.{shown_edge}
 use Rattle.circuit_meaning.specs.Cells.{looked_pins}
 use Rattle.circuit_meaning.specs.Need.{children, children_from, flop_child}
-use Rattle.strand_meaning.specs.declared.Next.{Next}
-use Rattle.strand_meaning.specs.declared.Next.TheVariants.{Ask, Fill, Drop, Done}
-use Rattle.strand_meaning.specs.Strands.{Frame, Strand, is_evaluable, asked_children, next, rest, roots_heard, stack_heard, after_answer, after_claim, waiting, awake, given_up, after_drop, after_fill, left_in, IsFirst}
+use Rattle.plan_machine.specs.declared.strand.Next.{Next}
+use Rattle.plan_machine.specs.declared.strand.Next.TheVariants.{Ask, Fill, Drop, Done}
+use Rattle.plan_machine.specs.Strands.{Frame, Strand, is_evaluable, asked_children, next, rest, roots_heard, stack_heard, after_answer, after_claim, waiting, awake, given_up, after_drop, after_fill, left_in, IsFirst}
 use Rattle.valid_intervals.specs.declared.SignalCell.{SignalCell}
-use Rattle.batch_meaning.specs.Batches.{Batch}
+use Rattle.journal_meaning.specs.Batches.{Batch}
 use Rattle.valid_intervals.specs.Cells.{stored_at}
 use Rattle.plan_machine.specs.Plans.{Plan, shard_of, claim_of, asks, woken_strand, itself}
 use Rattle.plan_machine.specs.Steps.{Rest, claim_step, ask_step, next_step, step_at, turned_by, turn_outcome, is_turn}
 use Rattle.plan_machine.specs.Turns.{plan_after, turn_at, turn, turns}
 use Rattle.plan_machine.specs.Bounds.{pins_of, most_pins, claim_cost, stack_cost, flag, turns_left, all_left}
-use Rattle.strand_meaning.proofs.Stacks.{IsTop, asks-first, asks-unspent, fill-top, drop-top}
+use Rattle.plan_machine.proofs.Stacks.{IsTop, asks-first, asks-unspent, fill-top, drop-top}
 
 -- a point has at most as many children as its signal has pins
 pub filter-length : {A : Type 0} (test : A → Bool) (xs : List A) → length (filter test xs) ≤ length xs

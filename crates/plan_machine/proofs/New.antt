@@ -8,18 +8,18 @@ use Rattle.valid_intervals.specs.declared.Point.{Point}
 use Rattle.circuit_meaning.specs.declared.Window.{Window}
 use Rattle.circuit_meaning.specs.Circuit.{Circuit}
 use Rattle.circuit_meaning.specs.Cells.{span}
-use Rattle.strand_meaning.specs.Strands.{Strand, IsOnStack, started_strand, is_evaluable, roots_from, IsStrand}
-use Rattle.batch_meaning.specs.Pieces.{Start, piece, IsStart}
+use Rattle.plan_machine.specs.Strands.{Strand, IsOnStack, started_strand, is_evaluable, roots_from, IsStrand}
+use Rattle.journal_meaning.specs.Pieces.{Start, piece, IsStart}
 use Rattle.valid_intervals.specs.declared.SignalCell.{SignalCell}
 use Rattle.journal_meaning.specs.States.{holder}
-use Rattle.batch_meaning.specs.Batches.{Batch}
-use Rattle.batch_meaning.specs.Lawful.{IsLawful}
+use Rattle.journal_meaning.specs.Batches.{Batch}
+use Rattle.journal_meaning.specs.Lawful.{IsLawful}
 use Rattle.plan_machine.specs.Shards.{Shard}
 use Rattle.plan_machine.specs.Plans.{claim_of, new_plan}
 use Rattle.plan_machine.specs.Turns.{turns}
 use Rattle.plan_machine.specs.Bounds.{turns_left, all_left, claim_cost, bound}
 use Rattle.plan_machine.specs.Sound.{IsSound, IsFresh}
-use Rattle.strand_meaning.proofs.Started.{started-right}
+use Rattle.plan_machine.proofs.Started.{started-right}
 use Rattle.plan_machine.proofs.Measure.{filter-length, turns-few}
 
 -- the roots of a piece of a window

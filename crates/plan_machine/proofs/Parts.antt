@@ -5,8 +5,8 @@ use Rattle.std.proofs.lemmas.Bool.{cases_eq}
 use Rattle.std.proofs.lemmas.Option.{slice_get_within}
 use Rattle.std.proofs.lemmas.Bool.Decides.{eqb_tells}
 use Rattle.valid_intervals.specs.declared.Point.{Point}
-use Rattle.strand_meaning.specs.declared.Next.TheVariants.{Ask}
-use Rattle.strand_meaning.specs.Strands.{Strand, next, waiting, awake, after_answer}
+use Rattle.plan_machine.specs.declared.strand.Next.TheVariants.{Ask}
+use Rattle.plan_machine.specs.Strands.{Strand, next, waiting, awake, after_answer}
 use Rattle.plan_machine.specs.Plans.{asks, woken_strand}
 use Rattle.plan_machine.specs.inner.Parts.{NumberedStrand, IsAmong, AreParts, put_back, with_waiters, waiter_at, placed_at, strands_from}
 use Rattle.journal_meaning.proofs.Claims.{cases_point}

@@ -3,19 +3,19 @@ use Rattle.std.proofs.Common.{◌≡◌, ℕ, zero, suc, ◌+◌, ◌<◌, ◌�
 use Rattle.std.proofs.lemmas.Bool.{cases_Bool, and_from, and_parts, not-true}
 use Rattle.valid_intervals.specs.declared.Point.{Point}
 use Rattle.circuit_meaning.proofs.Table.{at_all_times}
-use Rattle.strand_meaning.specs.declared.Next.{Next}
-use Rattle.strand_meaning.specs.declared.Next.TheVariants.{Ask, Fill, Drop, Done}
-use Rattle.strand_meaning.specs.Strands.{Frame, Strand, ask_or, next_in, next, IsOnStack}
+use Rattle.plan_machine.specs.declared.strand.Next.{Next}
+use Rattle.plan_machine.specs.declared.strand.Next.TheVariants.{Ask, Fill, Drop, Done}
+use Rattle.plan_machine.specs.Strands.{Frame, Strand, ask_or, next_in, next, IsOnStack}
 use Rattle.valid_intervals.specs.declared.SignalCell.{SignalCell}
-use Rattle.batch_meaning.specs.Batches.{Batch}
-use Rattle.batch_meaning.specs.Lawful.{IsLawful}
+use Rattle.journal_meaning.specs.Batches.{Batch}
+use Rattle.journal_meaning.specs.Lawful.{IsLawful}
 use Rattle.plan_machine.specs.Plans.{Plan, shard_of, claim_of, is_done, is_ready, ready_from}
 use Rattle.plan_machine.specs.declared.Turned.TheVariants.{Told, NotReady}
 use Rattle.valid_intervals.specs.Cells.{stored_at}
 use Rattle.plan_machine.specs.Steps.{Step, Tell, Claim, Wait, Spend, Finish, GiveBack, Rest, claim_step, ask_step, next_step, step_at, turned_by}
 use Rattle.plan_machine.specs.Turns.{plan_after, turn_at}
 use Rattle.plan_machine.specs.Sound.{IsSound, HasEnded, AreEnded, MovesIfReady}
-use Rattle.strand_meaning.proofs.Stacks.{asks-first, earlier}
+use Rattle.plan_machine.proofs.Stacks.{asks-first, earlier}
 
 -- what has ended
 ask-done : (end : Next) (xs : List Point) → ask_or end xs ≡ Done → (xs ≡ []) × (end ≡ Done)

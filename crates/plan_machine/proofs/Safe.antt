@@ -6,14 +6,14 @@ use Rattle.std.proofs.lemmas.List.Kept.{AllPairs-cons}
 use Rattle.valid_intervals.specs.declared.Point.{Point}
 use Rattle.valid_intervals.specs.declared.SignalCell.{SignalCell}
 use Rattle.circuit_meaning.specs.Circuit.{Circuit, IsCircuit}
-use Rattle.batch_meaning.specs.Batches.{Batch, IsNeededBy, OfQuery}
+use Rattle.journal_meaning.specs.Batches.{Batch, IsNeededBy, OfQuery}
 use Rattle.journal_meaning.specs.Allowed.{IsRight}
 use Rattle.journal_meaning.proofs.Fills.{one-fill-per_eviction}
 use Rattle.journal_meaning.proofs.More.{right-within}
-use Rattle.batch_meaning.specs.Lawful.{IsLawful}
-use Rattle.strand_meaning.specs.Strands.{Frame, IsOnStack, IsChain}
-use Rattle.strand_meaning.proofs.Stacks.{top-once}
-use Rattle.strand_meaning.proofs.Wanted.{asks-needed}
+use Rattle.journal_meaning.specs.Lawful.{IsLawful}
+use Rattle.plan_machine.specs.Strands.{Frame, IsOnStack, IsChain}
+use Rattle.plan_machine.proofs.Stacks.{top-once}
+use Rattle.plan_machine.proofs.Wanted.{asks-needed}
 use Rattle.plan_machine.specs.Plans.{Plan, no_shard}
 use Rattle.plan_machine.specs.Sound.{IsSound, IsSafe}
 

@@ -12,10 +12,10 @@ use Rattle.circuit_meaning.proofs.Cover.{cell-covers}
 use Rattle.circuit_meaning.proofs.Closed.{need-closed, held-need-closed}
 use Rattle.journal_meaning.specs.declared.Entry.{Entry}
 use Rattle.journal_meaning.specs.declared.Entry.TheVariants.{Filled, Dropped, Spent}
-use Rattle.batch_meaning.specs.declared.Query.{Query}
+use Rattle.journal_meaning.specs.declared.batch.Query.{Query}
 use Rattle.journal_meaning.specs.States.{fresh, holder}
 use Rattle.journal_meaning.specs.Replay.{replay}
-use Rattle.batch_meaning.specs.Batches.{Batch, Site, IsNeededBy, NeedOf, window_of}
+use Rattle.journal_meaning.specs.Batches.{Batch, Site, IsNeededBy, NeedOf, window_of}
 use Rattle.journal_meaning.specs.Answers.{IsCovered, last_of, fill_count, IsClosed, IsSpent}
 use Rattle.journal_meaning.specs.Grown.{IsFor, refusals, GrowsBy}
 use Rattle.journal_meaning.specs.inner.Grown.{IsForOther, IsRightEntry, AreTimesCovered}
@@ -23,10 +23,10 @@ use Rattle.journal_meaning.proofs.Named.{claims_ours, none_ours}
 use Rattle.journal_meaning.proofs.Lists.{Each, each-append, each-imply}
 use Rattle.journal_meaning.proofs.Grown.{added-none, added-more, for-other, grows-more, covered-kept, filled-more, refusals-more, others-refusals, children-kept, spent-kept}
 use Rattle.journal_meaning.proofs.Windows.{right-entries, times-more, closed-by}
-use Rattle.batch_meaning.specs.Lawful.{IsLawful}
-use Rattle.batch_meaning.specs.Pieces.{Start, IsStart}
-use Rattle.strand_meaning.specs.Strands.{roots_from}
-use Rattle.strand_meaning.proofs.Wanted.{within-of}
+use Rattle.journal_meaning.specs.Lawful.{IsLawful}
+use Rattle.journal_meaning.specs.Pieces.{Start, IsStart}
+use Rattle.plan_machine.specs.Strands.{roots_from}
+use Rattle.plan_machine.proofs.Wanted.{within-of}
 use Rattle.plan_machine.specs.Shards.{Shard, IsShard}
 use Rattle.plan_machine.specs.Plans.{Plan, no_shard, new_plan}
 use Rattle.plan_machine.specs.Sound.{IsFresh}

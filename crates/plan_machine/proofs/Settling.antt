@@ -11,19 +11,19 @@ use Rattle.circuit_meaning.specs.Cells.{span}
 use Rattle.circuit_meaning.specs.Need.{IsEvaluable, IsRoot, First, children}
 use Rattle.journal_meaning.specs.declared.Entry.{Entry}
 use Rattle.journal_meaning.specs.declared.Entry.TheVariants.{Told, Claimed, Filled, Evicted, Dropped, Spent}
-use Rattle.batch_meaning.specs.declared.Query.{Query}
+use Rattle.journal_meaning.specs.declared.batch.Query.{Query}
 use Rattle.journal_meaning.specs.States as states
-use Rattle.batch_meaning.specs.Batches.{Batch, IsNeededBy, window_of}
+use Rattle.journal_meaning.specs.Batches.{Batch, IsNeededBy, window_of}
 use Rattle.journal_meaning.specs.Answers.{Says, IsCovered}
 use Rattle.journal_meaning.specs.Grown.{IsFor, GrowsBy, AreAdded}
 use Rattle.journal_meaning.specs.inner.Grown.{IsForOther}
 use Rattle.journal_meaning.proofs.Named.{Needed, filled_needed}
 use Rattle.journal_meaning.proofs.Lists.{Each, each-append, each-imply}
 use Rattle.journal_meaning.proofs.Grown.{added-none, added-more, grows-none, for-other}
-use Rattle.batch_meaning.specs.Lawful.{IsLawful}
-use Rattle.batch_meaning.specs.Pieces.{Start, IsStart}
-use Rattle.strand_meaning.specs.Strands.{is_evaluable}
-use Rattle.strand_meaning.proofs.Stacks.{evaluable-true}
+use Rattle.journal_meaning.specs.Lawful.{IsLawful}
+use Rattle.journal_meaning.specs.Pieces.{Start, IsStart}
+use Rattle.plan_machine.specs.Strands.{is_evaluable}
+use Rattle.plan_machine.proofs.Stacks.{evaluable-true}
 use Rattle.plan_machine.specs.Shards.{Shard, IsShard}
 use Rattle.plan_machine.specs.Plans.{no_shard, new_plan}
 use Rattle.plan_machine.specs.Bounds.{all_left}

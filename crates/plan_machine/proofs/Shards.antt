@@ -14,11 +14,11 @@ use Rattle.journal_meaning.specs.declared.Entry.TheVariants.{Told, Claimed, Fill
 use Rattle.journal_meaning.specs.States.{fresh, holder, without_point, IsLeastRecent}
 use Rattle.journal_meaning.specs.Counts.{booked_count}
 use Rattle.journal_meaning.specs.Table.{Needs, after}
-use Rattle.batch_meaning.specs.Batches.{Batch, IsNeededBy, OfQuery}
+use Rattle.journal_meaning.specs.Batches.{Batch, IsNeededBy, OfQuery}
 use Rattle.journal_meaning.specs.Allowed.{IsAt, IsAllowed, IsRight}
 use Rattle.circuit_meaning.specs.Cells.{cell_at}
 use Rattle.journal_meaning.specs.Replay.{replay, IsLegal}
-use Rattle.strand_meaning.specs.Strands.{Strand, IsStrand}
+use Rattle.plan_machine.specs.Strands.{Strand, IsStrand}
 use Rattle.journal_meaning.proofs.Lists.{Stands, Here, There, each-stands, stands-any, front-snoc, snoc_cases}
 use Rattle.valid_intervals.proofs.Same.{same_stored-itself}
 use Rattle.journal_meaning.proofs.More.{replay-more, legal-more, booked-append, still-right, still-fits, right-answers}

@@ -10,18 +10,18 @@ use Rattle.valid_intervals.specs.Cells.{same_point, stored_at}
 use Rattle.circuit_meaning.specs.Forced.{forced_circuit}
 use Rattle.circuit_meaning.proofs.Alike.{held-fits}
 use Rattle.circuit_meaning.proofs.Roots.{needed-before}
-use Rattle.batch_meaning.specs.declared.Query.{Query}
+use Rattle.journal_meaning.specs.declared.batch.Query.{Query}
 use Rattle.journal_meaning.specs.declared.Entry.TheVariants.{Told, Claimed, Dropped}
 use Rattle.journal_meaning.specs.States.{holder, without_point}
-use Rattle.batch_meaning.specs.Batches.{Batch, Site, IsNeededBy, NeedOf, OfQuery, window_of}
+use Rattle.journal_meaning.specs.Batches.{Batch, Site, IsNeededBy, NeedOf, OfQuery, window_of}
 use Rattle.journal_meaning.specs.Allowed.{IsAt}
 use Rattle.circuit_meaning.specs.Cells.{cell_at}
 use Rattle.journal_meaning.proofs.Claims.{cases_point, claim-here, claim-other, holder-without, without-other}
-use Rattle.batch_meaning.specs.Lawful.{IsLawful}
-use Rattle.strand_meaning.specs.declared.Next.TheVariants.{Ask, Fill, Drop}
-use Rattle.strand_meaning.specs.Strands.{Strand, next, rest, after_answer, after_claim, waiting, awake, given_up, after_drop, after_fill, IsOnStack, IsStrand}
-use Rattle.strand_meaning.proofs.Stacks.{IsTop, held-heard, heard-held, held-rest, rest-held, top-held, top-once, heard-keeps, claimed-keeps, flags-keep, dropped-keeps, finished-keeps, fill-top, drop-top}
-use Rattle.strand_meaning.proofs.Wanted.{asks-needed}
+use Rattle.journal_meaning.specs.Lawful.{IsLawful}
+use Rattle.plan_machine.specs.declared.strand.Next.TheVariants.{Ask, Fill, Drop}
+use Rattle.plan_machine.specs.Strands.{Strand, next, rest, after_answer, after_claim, waiting, awake, given_up, after_drop, after_fill, IsOnStack, IsStrand}
+use Rattle.plan_machine.proofs.Stacks.{IsTop, held-heard, heard-held, held-rest, rest-held, top-held, top-once, heard-keeps, claimed-keeps, flags-keep, dropped-keeps, finished-keeps, fill-top, drop-top}
+use Rattle.plan_machine.proofs.Wanted.{asks-needed}
 use Rattle.plan_machine.specs.Shards.{Shard, shard_with_entry, filled_shard, IsShard}
 use Rattle.plan_machine.specs.Plans.{Plan, no_shard, home, shard_of, claim_of, asks, woken_strand, itself, with_strand}
 use Rattle.plan_machine.specs.Steps as steps

@@ -11,9 +11,9 @@ use Rattle.journal_meaning.specs.Answers.{IsCovered, is_fill_of, fill_count}
 use Rattle.journal_meaning.specs.Grown.{IsSaid, IsFor, is_spent_of, refusals}
 use Rattle.journal_meaning.proofs.Lists.{Each, contains-one, each-append, each-imply}
 use Rattle.journal_meaning.proofs.Grown.{grows-append, said-kept, count-append, count-none}
-use Rattle.strand_meaning.specs.Strands.{Frame, Strand, started_strand, has_children, is_evaluable, asked_children, rest, roots_heard, stack_heard, after_answer, after_claim, left_in, IsFirst}
-use Rattle.batch_meaning.specs.Pieces.{Start}
-use Rattle.strand_meaning.proofs.Stacks.{IsTop, HasHeard, rest_all, length-rest, length-heard}
+use Rattle.plan_machine.specs.Strands.{Frame, Strand, started_strand, has_children, is_evaluable, asked_children, rest, roots_heard, stack_heard, after_answer, after_claim, left_in, IsFirst}
+use Rattle.journal_meaning.specs.Pieces.{Start}
+use Rattle.plan_machine.proofs.Stacks.{IsTop, HasHeard, rest_all, length-rest, length-heard}
 use Rattle.plan_machine.specs.Alone.{IsDue, IsFrameDue, AreFed, IsUnspent, IsUnderWay, roots_of}
 
 pub contains-cases : {X : Type 0} (y : X) (ys : List X) (x : X) → Contains (y ∷ ys) x → (y ≡ x) ⊎ Contains ys x

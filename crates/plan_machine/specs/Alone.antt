@@ -8,13 +8,13 @@ use Rattle.circuit_meaning.specs.Circuit.{Circuit}
 use Rattle.circuit_meaning.specs.Need.{children}
 use Rattle.journal_meaning.specs.declared.Entry.{Entry}
 use Rattle.journal_meaning.specs.declared.Entry.TheVariants.{Told, Claimed, Filled, Evicted, Dropped, Spent}
-use Rattle.batch_meaning.specs.Batches.{Batch}
+use Rattle.journal_meaning.specs.Batches.{Batch}
 use Rattle.journal_meaning.specs.Answers.{IsCovered, last_of, fill_count}
 use Rattle.journal_meaning.specs.Grown.{IsSaid, IsFor, refusals, AreAdded}
-use Rattle.strand_meaning.specs.declared.Next.{Next}
-use Rattle.strand_meaning.specs.declared.Next.TheVariants.{Ask}
-use Rattle.strand_meaning.specs.Strands.{Frame, Strand, started_strand, roots_from, asked_children, next_in, next, given_up}
-use Rattle.batch_meaning.specs.Pieces.{Start, piece}
+use Rattle.plan_machine.specs.declared.strand.Next.{Next}
+use Rattle.plan_machine.specs.declared.strand.Next.TheVariants.{Ask}
+use Rattle.plan_machine.specs.Strands.{Frame, Strand, started_strand, roots_from, asked_children, next_in, next, given_up}
+use Rattle.journal_meaning.specs.Pieces.{Start, piece}
 use Rattle.plan_machine.specs.Shards.{shard_with_entry}
 use Rattle.plan_machine.specs.Plans.{Plan, shard_of, claim_of, with_shard}
 use Rattle.plan_machine.specs.Steps as steps

@@ -2,9 +2,9 @@
 use Rattle.std.specs.Prelude.{ℕ, ◌+◌, ◌-◌, ◌*◌, Bool, true, false, List, [], ◌∷◌, length, max}
 use Rattle.std.specs.List.{sum_by}
 use Rattle.circuit_meaning.specs.Circuit.{Driver, Input, Gate, Flop}
-use Rattle.batch_meaning.specs.Batches.{Batch}
-use Rattle.strand_meaning.specs.Strands.{Frame, Strand}
-use Rattle.batch_meaning.specs.Pieces.{Start}
+use Rattle.journal_meaning.specs.Batches.{Batch}
+use Rattle.plan_machine.specs.Strands.{Frame, Strand}
+use Rattle.journal_meaning.specs.Pieces.{Start}
 use Rattle.plan_machine.specs.Plans.{Plan}
 
 -- the greatest number of pins

@@ -4,12 +4,12 @@ use Rattle.std.specs.List.{AllByRecursion}
 use Rattle.valid_intervals.specs.declared.Point.{Point}
 use Rattle.valid_intervals.specs.declared.SignalCell.{SignalCell}
 use Rattle.journal_meaning.specs.declared.Entry.{Entry}
-use Rattle.batch_meaning.specs.Batches.{Batch}
+use Rattle.journal_meaning.specs.Batches.{Batch}
 use Rattle.journal_meaning.specs.Grown.{AreAdded}
-use Rattle.batch_meaning.specs.Lawful.{IsLawful}
-use Rattle.strand_meaning.specs.declared.Next.TheVariants.{Done}
-use Rattle.strand_meaning.specs.Strands.{Strand, started_strand, next}
-use Rattle.batch_meaning.specs.Pieces.{Start, IsStart}
+use Rattle.journal_meaning.specs.Lawful.{IsLawful}
+use Rattle.plan_machine.specs.declared.strand.Next.TheVariants.{Done}
+use Rattle.plan_machine.specs.Strands.{Strand, started_strand, next}
+use Rattle.journal_meaning.specs.Pieces.{Start, IsStart}
 use Rattle.plan_machine.specs.Shards.{Shard}
 use Rattle.plan_machine.specs.Plans.{Plan, claim_of, new_plan, is_ready}
 use Rattle.plan_machine.specs.Turns.{turn, run, turns}

@@ -10,3 +10,5 @@ pub mod Alone
 pub mod Settle
 pub mod Settling
 pub mod inner
+pub mod Strands
+pub mod StrandLaws

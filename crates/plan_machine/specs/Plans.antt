@@ -3,11 +3,11 @@ use Rattle.std.specs.Prelude.{ℕ, ◌+◌, not, ◌&&◌, Bool, true, false, if
 use Rattle.valid_intervals.specs.declared.Point.{Point}
 use Rattle.valid_intervals.specs.Cells.{same_point}
 use Rattle.journal_meaning.specs.States.{fresh, holder}
-use Rattle.batch_meaning.specs.Batches.{Batch, shard_number}
-use Rattle.strand_meaning.specs.declared.Next.{Next}
-use Rattle.strand_meaning.specs.declared.Next.TheVariants.{Ask, Done}
-use Rattle.strand_meaning.specs.Strands.{Strand, started_strand, next, awake}
-use Rattle.batch_meaning.specs.Pieces.{Start}
+use Rattle.journal_meaning.specs.Batches.{Batch, shard_number}
+use Rattle.plan_machine.specs.declared.strand.Next.{Next}
+use Rattle.plan_machine.specs.declared.strand.Next.TheVariants.{Ask, Done}
+use Rattle.plan_machine.specs.Strands.{Strand, started_strand, next, awake}
+use Rattle.journal_meaning.specs.Pieces.{Start}
 use Rattle.plan_machine.specs.Shards.{Shard}
 
 -- Strand i has number i. Waiting strands are included.

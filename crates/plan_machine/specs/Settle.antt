@@ -8,13 +8,13 @@ use Rattle.circuit_meaning.specs.declared.Run.{Run}
 use Rattle.circuit_meaning.specs.Forward.{wave}
 use Rattle.journal_meaning.specs.declared.Entry.{Entry}
 use Rattle.journal_meaning.specs.declared.Entry.TheVariants.{Dropped}
-use Rattle.batch_meaning.specs.declared.Query.{Query}
-use Rattle.batch_meaning.specs.Batches.{Batch}
+use Rattle.journal_meaning.specs.declared.batch.Query.{Query}
+use Rattle.journal_meaning.specs.Batches.{Batch}
 use Rattle.journal_meaning.specs.Answers.{fill_count, IsClosed, IsSpent, IsAnswer}
 use Rattle.journal_meaning.specs.Sections.{of_batch}
 use Rattle.journal_meaning.specs.Laws.{IsLegalFrom}
 use Rattle.journal_meaning.specs.Grown.{refusals, AreAdded}
-use Rattle.batch_meaning.specs.Pieces.{Start}
+use Rattle.journal_meaning.specs.Pieces.{Start}
 use Rattle.journal_meaning.specs.States.{Claim, holder}
 use Rattle.plan_machine.specs.Shards.{Shard, IsShard, shard_with_entry}
 use Rattle.plan_machine.specs.Plans.{no_shard}

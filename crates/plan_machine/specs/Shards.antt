@@ -9,7 +9,7 @@ use Rattle.journal_meaning.specs.declared.Entry.{Entry}
 use Rattle.journal_meaning.specs.declared.Entry.TheVariants.{Filled, Evicted}
 use Rattle.journal_meaning.specs.States.{State, fresh}
 use Rattle.journal_meaning.specs.Table.{after}
-use Rattle.batch_meaning.specs.Batches.{Batch}
+use Rattle.journal_meaning.specs.Batches.{Batch}
 use Rattle.journal_meaning.specs.Allowed.{IsRight}
 use Rattle.journal_meaning.specs.Replay.{replay, IsLegal}
 

@@ -3,11 +3,11 @@ use Rattle.std.specs.Prelude.{◌≡◌, ℕ, ◌≤◌, ◌<◌, ◌+◌, true,
 use Rattle.valid_intervals.specs.declared.Point.{Point}
 use Rattle.valid_intervals.specs.declared.SignalCell.{SignalCell}
 use Rattle.valid_intervals.specs.Spans.{IsIn}
-use Rattle.batch_meaning.specs.Batches.{Batch, IsNeededBy, OfQuery}
+use Rattle.journal_meaning.specs.Batches.{Batch, IsNeededBy, OfQuery}
 use Rattle.circuit_meaning.specs.Cells.{cell_at}
 use Rattle.journal_meaning.specs.Counts.{fills_at, evictions_of}
-use Rattle.strand_meaning.specs.declared.Next.TheVariants.{Ask, Done}
-use Rattle.strand_meaning.specs.Strands.{Strand, next, after_answer, awake, IsOnStack, IsStrand}
+use Rattle.plan_machine.specs.declared.strand.Next.TheVariants.{Ask, Done}
+use Rattle.plan_machine.specs.Strands.{Strand, next, after_answer, awake, IsOnStack, IsStrand}
 use Rattle.plan_machine.specs.Shards.{Shard, IsShard}
 use Rattle.plan_machine.specs.Plans.{Plan, no_shard, claim_of, is_ready, ready, itself}
 use Rattle.plan_machine.specs.declared.Turned.TheVariants.{NotReady}

@@ -1,9 +1,9 @@
 -- One turn of a strand, and any list of turns.
 use Rattle.std.specs.Prelude.{ℕ, ◌+◌, List, [], ◌∷◌, slice_get, Option, Some, None}
 use Rattle.journal_meaning.specs.declared.Entry.TheVariants.{Told, Claimed, Dropped}
-use Rattle.batch_meaning.specs.Batches.{Batch}
+use Rattle.journal_meaning.specs.Batches.{Batch}
 use Rattle.circuit_meaning.specs.Cells.{cell_at}
-use Rattle.strand_meaning.specs.Strands.{Strand, after_answer, after_claim, waiting, given_up, after_drop, after_fill}
+use Rattle.plan_machine.specs.Strands.{Strand, after_answer, after_claim, waiting, given_up, after_drop, after_fill}
 use Rattle.plan_machine.specs.Shards.{shard_with_entry, filled_shard}
 use Rattle.plan_machine.specs.Plans.{Plan, shard_of, with_strand, with_shard, with_woken, itself}
 use Rattle.plan_machine.specs.Steps.{Step, Tell, Claim, Wait, Spend, Finish, GiveBack, Rest, step_at, turn_outcome, is_turn}

@@ -30,6 +30,10 @@
 
 ghost use Rattle.plan_machine.specs.Laws.{NewIsSound, TurnsKeepSound, RunsKeepSound, SoundIsSafe, ReadyStrandsMove, EndsLetOut, IsNeverStuck, NoneReadyEnds, TurnsAreFew, TurnsAreBounded, TurnsAdd, RunsAdd, TasksStay, AloneBegins, AloneGoes, AloneEnds, SettlesBatch, SettledAnswers};
 
+mod strand;
+
+pub use strand::{Next, strands_ask_what_is_needed, strands_stay, waits_are_earlier};
+
 /// The result of one turn of a strand.
 #[derive(Clone, Copy, Debug, PartialEq, Eq)]
 pub enum Turned {

@@ -6,9 +6,9 @@ use Rattle.std.proofs.lemmas.List.{length-append, length-map, length-take, map-a
 use Rattle.std.proofs.lemmas.List.Sums.{count_by-le-length}
 use Rattle.std.proofs.lemmas.List.Splits.{length-slice_split, slice_split-cons_no}
 use Rattle.std.proofs.lemmas.Bool.{ltb-true, ltb-false}
-use Rattle.text_rules.specs.Text.{is_feed, lines, less_empty_last}
-use Rattle.text_rules.proofs.Cuts.{keeps_first}
-use Rattle.text_rules.proofs.Stream.{is_plain}
+use Rattle.texts.specs.Text.{is_feed, lines, less_empty_last}
+use Rattle.texts.proofs.Cuts.{keeps_first}
+use Rattle.texts.proofs.Stream.{is_plain}
 use Rattle.query_lines.specs.declared.line.Line.{Line}
 use Rattle.query_lines.specs.declared.unit.Item.{Item}
 use Rattle.query_lines.specs.declared.unit.Unit.{Unit as ScriptUnit}

@@ -5,8 +5,8 @@ use Rattle.std.specs.List.{enumerate_from}
 use Rattle.std.proofs.lemmas.List.{append-nil, length-append}
 use Rattle.std.proofs.lemmas.List.Elements.{All-tail, All-same}
 use Rattle.query_lines.proofs.OwnLines.{first-part}
-use Rattle.text_rules.specs.Text.{lines}
-use Rattle.text_rules.proofs.Stream.{is_plain, line_front, line_last, no_line, plain_push, not_feed}
+use Rattle.texts.specs.Text.{lines}
+use Rattle.texts.proofs.Stream.{is_plain, line_front, line_last, no_line, plain_push, not_feed}
 use Rattle.query_lines.specs.declared.cutter.Cut.{Cut}
 use Rattle.query_lines.specs.declared.unit.Item.{Item}
 use Rattle.query_lines.specs.declared.unit.Unit.{Unit as ScriptUnit}

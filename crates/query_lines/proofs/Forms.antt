@@ -5,8 +5,8 @@ use Rattle.std.specs.Str.{bytes_eq}
 use Rattle.std.proofs.lemmas.Bool.{leb-true}
 use Rattle.gate_values.specs.declared.Value.{Value}
 use Rattle.gate_values.specs.Spelling.{value_of_word}
-use Rattle.text_rules.specs.declared.Amount.TheVariants.{NoNumber, Above, Within}
-use Rattle.text_rules.specs.Text.{is_number, is_name, decimal_value, content, words}
+use Rattle.texts.specs.declared.Amount.TheVariants.{NoNumber, Above, Within}
+use Rattle.texts.specs.Text.{is_number, is_name, decimal_value, content, words}
 use Rattle.query_lines.specs.declared.line.Asks.{Asks}
 use Rattle.query_lines.specs.declared.line.Asks.TheVariants.{First, Why, Stuck}
 use Rattle.query_lines.specs.declared.line.Line.{Line}

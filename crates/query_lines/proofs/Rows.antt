@@ -1,7 +1,7 @@
 -- Worked examples: what has ended in some bytes, and which units that completes.
 use Rattle.std.proofs.Common.{◌≡◌, ℕ, List, [], ◌∷◌, ◌++◌, refl}
 use Rattle.std.specs.Prelude.{codes}
-use Rattle.text_rules.specs.Text.{words}
+use Rattle.texts.specs.Text.{words}
 use Rattle.query_lines.specs.declared.line.What.TheVariants.{Window, Bad}
 use Rattle.query_lines.specs.declared.line.Tell.TheVariants.{At}
 use Rattle.query_lines.specs.declared.unit.Unit.TheVariants.{Batch, Trim, Stats}

@@ -1,6 +1,6 @@
 -- What the code that serves the units of a script may assume.
 use Rattle.std.specs.Prelude.{◌≡◌, ◌≢◌, ⊤, ℕ, ◌≤◌, IsTrue, List, All, AllPairs}
-use Rattle.text_rules.specs.Text.{is_name}
+use Rattle.texts.specs.Text.{is_name}
 use Rattle.query_lines.specs.declared.line.What.{What}
 use Rattle.query_lines.specs.declared.line.What.TheVariants as whats
 use Rattle.query_lines.specs.declared.line.Asks.{Asks}

@@ -4,9 +4,9 @@ use Rattle.std.specs.Str.{bytes_eq}
 use Rattle.gate_values.specs.declared.Value.{Value}
 use Rattle.gate_values.specs.declared.Value.TheVariants.{Zero, One}
 use Rattle.gate_values.specs.Spelling.{value_of_word}
-use Rattle.text_rules.specs.declared.Amount.{Amount}
-use Rattle.text_rules.specs.declared.Amount.TheVariants as amounts
-use Rattle.text_rules.specs.Text.{amount, content, is_name, words}
+use Rattle.texts.specs.declared.Amount.{Amount}
+use Rattle.texts.specs.declared.Amount.TheVariants as amounts
+use Rattle.texts.specs.Text.{amount, content, is_name, words}
 use Rattle.query_lines.specs.declared.line.Line.{Line}
 use Rattle.query_lines.specs.declared.line.Line.TheVariants.{Blank, Ask, Go, Trim, Stats, Question, Vcd, Bad}
 use Rattle.query_lines.specs.declared.line.What.TheVariants as whats

@@ -1,7 +1,7 @@
 -- A script read byte by byte.
 use Rattle.std.specs.Prelude.{◌≡◌, ℕ, ◌+◌, ◌≤◌, true, not, List, ◌++◌, length}
 use Rattle.std.specs.List.{list_all}
-use Rattle.text_rules.specs.Text.{is_feed}
+use Rattle.texts.specs.Text.{is_feed}
 use Rattle.query_lines.specs.declared.unit.Unit.{Unit as ScriptUnit}
 use Rattle.query_lines.specs.Cutting.{Cutter, IsUnderWay}
 use Rattle.query_lines.specs.Units.{Pending, units_from}

@@ -1,7 +1,7 @@
 -- The units of a script, and those of the lines ended in its first bytes.
 use Rattle.std.specs.Prelude.{ℕ, List, [], ◌∷◌, map}
 use Rattle.std.specs.List.{enumerate_from, slice_split}
-use Rattle.text_rules.specs.Text.{is_feed, lines}
+use Rattle.texts.specs.Text.{is_feed, lines}
 use Rattle.query_lines.specs.declared.line.Line.{Line}
 use Rattle.query_lines.specs.declared.unit.Unit.{Unit as ScriptUnit}
 use Rattle.query_lines.specs.Lines.{line_of}

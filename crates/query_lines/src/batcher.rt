@@ -6,10 +6,10 @@ ghost use Rattle.query_lines.specs.Units.{closed_unit, given_by, left_by, with_i
 
 use crate::line::{Line, What, Window};
 use crate::unit::{Item, ItemList, Question, Unit, UnitList};
-use owned_text::OutOfMemory;
 use std::alloc::Global;
 use std::marker::Model;
 use std::mem;
+use texts::OutOfMemory;
 
 const MOST_ITEMS: usize = 64;
 

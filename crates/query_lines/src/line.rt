@@ -1,15 +1,14 @@
 //! The forms of a script's lines.
 
 ghost use Rattle.std.specs.Prelude.{◌≡◌, ◌≤◌, Some, IfOk, IfSome};
-ghost use Rattle.text_rules.specs.Text.{words};
+ghost use Rattle.texts.specs.Text.{words};
 ghost use Rattle.query_lines.specs.Lines as lines;
 ghost use Rattle.query_lines.specs.Lines.{line_of};
 ghost use Rattle.query_lines.specs.declared.line.Asks.TheVariants.{Stuck};
 
 use gate_values::Value;
-use owned_text::{OutOfMemory, Text};
 use std::alloc::Global;
-use text_rules::{Amount, content, is_name, next_word, read_amount};
+use texts::{Amount, OutOfMemory, Text, content, is_name, next_word, read_amount};
 
 /// The greatest length of a line, without its line feed.
 pub const LONGEST_LINE: usize = 4096;

@@ -14,9 +14,9 @@ use crate::batcher::Batcher;
 use crate::cutter::LineCutter;
 use crate::line::{Line, read_line};
 use crate::unit::UnitList;
-use owned_text::OutOfMemory;
 use std::alloc::Global;
 use std::marker::Model;
+use texts::OutOfMemory;
 
 /// Reads a script a byte at a time, and gives each unit as soon as the line
 /// that completes it has ended.

@@ -3,8 +3,8 @@
 ghost use Rattle.std.specs.Prelude.{◌≡◌};
 
 use crate::line::{Asks, What, Window};
-use owned_text::Text;
 use std::marker::Model;
+use texts::Text;
 
 /// An item of a batch: the number of its line, counted from 1, and what the
 /// line asks.

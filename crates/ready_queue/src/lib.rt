@@ -47,10 +47,10 @@ ghost use Rattle.ready_queue.specs.Queue.{pushed_by, popped_by, history_of, capa
 
 use crossbeam_queue::protocol::{Lesson, Outcome, Protocol, Split};
 use crossbeam_queue::{Pass, RuledArrayQueue};
-use owned_text::OutOfMemory;
 use std::alloc::Global;
 use std::collections::LinkedList;
 use std::sync::Wait;
+use texts::OutOfMemory;
 
 /// What went through a pass, in order, and whether the queue has no other pass. Only proofs have such a value.
 pub struct History<T> {

@@ -7,8 +7,8 @@ use Rattle.gate_values.specs.declared.Kind.{Kind}
 use Rattle.gate_values.specs.Gates.{gate_value}
 use Rattle.circuit_meaning.specs.Circuit.{Input, Gate, Flop, Circuit, IsCircuit, IsDriver, driver}
 use Rattle.circuit_meaning.specs.Forward.{value, value_from, seen_value, flop_value, input_value, last_setting}
-use Rattle.flip_flops.specs.Edges.{shown_edge}
-use Rattle.flip_flops.proofs.EdgeLemmas.{shown_edge-le}
+use Rattle.circuit_meaning.specs.Edges.{shown_edge}
+use Rattle.circuit_meaning.proofs.EdgeLemmas.{shown_edge-le}
 use Rattle.circuit_meaning.proofs.Equations.{value_is, driver_fits}
 use Rattle.reference_simulator.specs.declared.Element.{Element}
 use Rattle.reference_simulator.specs.declared.Element.TheVariants.{Input as InputElement, Gate as GateElement, Flop as FlopElement}

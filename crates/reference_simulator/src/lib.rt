@@ -18,11 +18,10 @@
 ghost use Rattle.std.specs.Prelude.{◌≡◌, ◌≢◌, ℕ, ◌+◌, ◌*◌, ◌<◌, ◌≤◌, ◌↔◌, length, IsTrue, All, AllPairs, IfSome, IsNone};
 ghost use Rattle.circuit_meaning.specs.Circuit.{Circuit, IsCircuit, AreSettings, ArePins, IsFlipFlop, driver, IsDriver};
 ghost use Rattle.circuit_meaning.specs.Forward.{value, last_setting, input_value, later};
-ghost use Rattle.flip_flops.specs.Edges.{last_edge, shown_edge};
+ghost use Rattle.circuit_meaning.specs.Edges.{last_edge, shown_edge};
 ghost use Rattle.reference_simulator.specs.Elements.{circuit_of, driver_of};
 
-use circuit_meaning::{FlipFlop, Pin, Setting};
-use flip_flops::Clock;
+use circuit_meaning::{Clock, FlipFlop, Pin, Setting};
 use gate_values::{Kind, Value, eval_all};
 use std::marker::Model;
 
@@ -151,7 +150,7 @@ impl Simulator {
 }
 
 /// The last edge that is shown at a time.
-#[tactic(auto, unfolding(flip_flops::specs::Edges::last_edge))]
+#[tactic(auto, unfolding(circuit_meaning::specs::Edges::last_edge))]
 fn edge_of(clock: Clock, delay: u32, time: u32) -> Option<u32>
     requires { 1 ≤ clock.period }
     ensures { result ≡ last_edge clock delay time }

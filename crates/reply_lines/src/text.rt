@@ -9,9 +9,9 @@ use crate::reply::{Explanation, Outcome, QuestionReply, Reply, VcdReply};
 use circuit_meaning::Run;
 use gate_values::Value;
 use itoa::Buffer;
-use owned_text::{OutOfMemory, Text};
 use query_lines::{Asks, Item, Question, Tell, What, Window};
 use std::alloc::Global;
+use texts::{OutOfMemory, Text};
 use why_proofs::proof_text;
 use window_walks::Runs;
 

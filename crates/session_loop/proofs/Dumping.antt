@@ -10,10 +10,10 @@ use Rattle.std.proofs.lemmas.List.Elements.{Contains-append_right, All-head, All
 use Rattle.std.proofs.lemmas.List.Folds.{list_any-append}
 use Rattle.std.proofs.lemmas.Str.{IsUtf8-from_ascii}
 use Rattle.backsim_io.specs.Counts.{Grows}
-use Rattle.owned_text.specs.Made.{Made}
+use Rattle.texts.specs.Made.{Made}
 use Rattle.backsim_io.specs.FilesInMemory.{files_with, CreatesIn, FileGrows, SameMade, Places, list_without}
 use Rattle.backsim_io.specs.State.{FilesState}
-use Rattle.text_rules.specs.Text.{is_mark, is_hash, is_name, is_name_byte}
+use Rattle.texts.specs.Text.{is_mark, is_hash, is_name, is_name_byte}
 use Rattle.query_lines.specs.declared.unit.Unit.TheVariants.{Vcd}
 use Rattle.reply_lines.specs.declared.reply.VcdReply.{VcdReply}
 use Rattle.reply_lines.specs.declared.reply.VcdReply.TheVariants as replies

@@ -2,7 +2,7 @@
 use Rattle.std.proofs.Common.{◌≡◌, ℕ, ◌+◌, List, [], ◌∷◌, ◌++◌, Result, Ok, Err, refl, sym, ap, subst, ◌∙◌, append-nil}
 use Rattle.std.specs.Prelude.{Option, IsErrAnd}
 use Rattle.backsim_io.specs.Counts.{Grows}
-use Rattle.owned_text.specs.Made.{Made}
+use Rattle.texts.specs.Made.{Made}
 use Rattle.backsim_io.specs.FilesInMemory.{FileGrows, SameMade}
 use Rattle.journal_text.specs.Spelling.{head_line}
 use Rattle.session_meaning.specs.Session.{Setup}

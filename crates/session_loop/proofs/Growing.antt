@@ -3,7 +3,7 @@ use Rattle.std.proofs.Common.{◌≡◌, ℕ, List, [], ◌++◌, take, drop, Re
 use Rattle.std.specs.Prelude.{IsErrAnd}
 use Rattle.std.proofs.lemmas.List.{take-append-drop}
 use Rattle.backsim_io.specs.Counts.{Grows, GrowsByPrefix}
-use Rattle.owned_text.specs.Made.{Made}
+use Rattle.texts.specs.Made.{Made}
 use Rattle.backsim_io.specs.FilesInMemory.{files_with, FileGrows, FileGrowsByPrefix}
 use Rattle.backsim_io.specs.State.{FilesState}
 use Rattle.backsim_io.proofs.Grown.{grown_twice, grown_none}

@@ -5,7 +5,7 @@ use Rattle.journal_text.specs.declared.sections.SectionKind.{SectionKind}
 use Rattle.std.proofs.lemmas.List.{take_more, take-append-drop}
 use Rattle.std.proofs.lemmas.List.Concat.{flat_map-append}
 use Rattle.journal_meaning.specs.declared.Entry.{Entry}
-use Rattle.text_fields.specs.Spelling.{field}
+use Rattle.texts.specs.fields.Spelling.{field}
 use Rattle.journal_text.specs.Spelling.{line_feed, entry_line, shard_lines, kind_word, section_lines}
 use Rattle.query_lines.specs.declared.unit.Item.{Item}
 use Rattle.reply_lines.specs.declared.reply.Reply.{Reply}

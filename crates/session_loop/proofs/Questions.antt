@@ -3,11 +3,11 @@ use Rattle.std.proofs.Common.{◌≡◌, ℕ, ◌+◌, ◌<◌, ◌≤◌, List,
 use Rattle.std.specs.Prelude.{IfSome, IsErrAnd}
 use Rattle.std.proofs.lemmas.List.Sums.{fold-append}
 use Rattle.cell_store.specs.Recency.{Contents}
-use Rattle.owned_text.specs.Made.{Made}
+use Rattle.texts.specs.Made.{Made}
 use Rattle.backsim_io.specs.FilesInMemory.{FileGrows}
 use Rattle.circuit_meaning.specs.Circuit.{Circuit}
 use Rattle.journal_meaning.specs.declared.Entry.{Entry}
-use Rattle.batch_meaning.specs.Batches.{Site, Batch as BatchRecord}
+use Rattle.journal_meaning.specs.Batches.{Site, Batch as BatchRecord}
 use Rattle.journal_meaning.specs.Counts.{count}
 use Rattle.journal_meaning.specs.States.{fresh}
 use Rattle.journal_meaning.specs.Replay.{replay, IsLegalBatch}

@@ -8,7 +8,7 @@ use Rattle.std.proofs.lemmas.List.Elements.{filter-append}
 use Rattle.valid_intervals.specs.declared.SignalCell.{SignalCell}
 use Rattle.cell_store.specs.Recency.{Contents}
 use Rattle.backsim_io.specs.Counts.{Grows}
-use Rattle.owned_text.specs.Made.{Made}
+use Rattle.texts.specs.Made.{Made}
 use Rattle.backsim_io.specs.FilesInMemory.{FileGrows}
 use Rattle.backsim_io.specs.State.{FilesState}
 use Rattle.journal_meaning.specs.declared.Entry.{Entry}

@@ -2,7 +2,7 @@
 use Rattle.std.specs.Prelude.{◌≡◌, ℕ, ◌+◌, ◌≤◌, ◌⊎◌, List, [], ◌∷◌, length, Option, Some, Result, Ok, Err}
 use Rattle.std.specs.Io.KnownBytes.{IsAtEnd}
 use Rattle.backsim_io.specs.Counts.{Grows, Stays}
-use Rattle.owned_text.specs.Made.{Made}
+use Rattle.texts.specs.Made.{Made}
 use Rattle.backsim_io.specs.FilesInMemory.{SameMade}
 use Rattle.journal_text.specs.Spelling.{head_line}
 use Rattle.query_lines.specs.declared.unit.Item.{Item}

@@ -1,7 +1,7 @@
 -- What a session changes of the outside: of its files, of its script's source and of the sink of its
 -- replies. The bytes that it writes are told elsewhere.
 use Rattle.std.specs.Prelude.{◌≡◌, ◌≤◌, ℕ, ◌+◌, List, [], ◌∷◌, ◌++◌, Result, Ok, Err}
-use Rattle.owned_text.specs.Made.{Made}
+use Rattle.texts.specs.Made.{Made}
 use Rattle.backsim_io.specs.FilesInMemory.{list_without}
 use Rattle.backsim_io.specs.State.{FilesState, SourceState, FileFault, WriteFault, Rises}
 use Rattle.session_loop.specs.declared.stop.JournalStop.{JournalStop}

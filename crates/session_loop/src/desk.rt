@@ -1,10 +1,10 @@
 //! What a session keeps from one unit to the next.
 
 use cell_store::CellStore;
-use owned_text::Text;
+use query_answers::stuck::LastSite;
 use query_lines::ItemList;
 use reply_lines::Reply;
-use stuck_faults::LastSite;
+use texts::Text;
 
 /// How many sections were written, and how many of them are of batches; how many points were filled, and how many cells evicted.
 #[derive(Clone, Copy, Debug, PartialEq, Eq)]

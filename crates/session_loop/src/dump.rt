@@ -3,8 +3,8 @@
 ghost use Rattle.std.specs.Prelude.{◌≡◌, ◌+◌, ◌++◌, ◌<◌, ◌∷◌, [], List, IsTrue, length, IfErr, IfOk, OnOk, None};
 ghost use Rattle.std.specs.List.{list_any};
 ghost use Rattle.std.specs.Str.{bytes_eq};
-ghost use Rattle.owned_text.specs.Made.{Made};
-ghost use Rattle.text_rules.specs.Text.{is_name};
+ghost use Rattle.texts.specs.Made.{Made};
+ghost use Rattle.texts.specs.Text.{is_name};
 ghost use Rattle.query_lines.specs.declared.unit.Unit.TheVariants as kinds;
 ghost use Rattle.reply_lines.specs.Replies.{vcd_line};
 ghost use Rattle.reply_lines.specs.declared.reply.VcdReply.TheVariants as replies;
@@ -25,9 +25,9 @@ use crate::section::write_reply;
 use crate::service::Service;
 use crate::stop::{DumpStop, RepliesStop, UnitStop};
 use backsim_io::{Files, Sink, write_file};
-use owned_text::{OutOfMemory, Text};
 use reply_lines::{VcdReply, dump_text};
 use std::alloc::Global;
+use texts::{OutOfMemory, Text};
 use unit_answers::dump_waves;
 
 /// The most dumps that a session makes.

@@ -7,7 +7,7 @@ ghost use Rattle.session_loop.specs.declared.halt.Halt.TheVariants.{Unbegun, Sto
 ghost use Rattle.session_loop.specs.declared.stop.JournalStop.TheVariants.{OutOfMemory as out_of_memory};
 
 use crate::stop::{JournalStop, ScriptStop};
-use owned_text::OutOfMemory;
+use texts::OutOfMemory;
 
 /// A journal couldn't be finished.
 #[derive(Clone, Copy, Debug, PartialEq, Eq)]

@@ -20,10 +20,10 @@ use crate::tell::tell_question;
 use backsim_io::{Files, Sink};
 use cell_store::CellStore;
 use journal_text::SectionKind;
-use owned_text::OutOfMemory;
+use query_answers::stuck::{AskedDesign, LastSite};
 use query_lines::Question;
 use reply_lines::question_text;
-use stuck_faults::{AskedDesign, LastSite};
+use texts::OutOfMemory;
 use unit_answers::{QuestionDone, answer_question};
 use worker_gate::Crew;
 

@@ -15,8 +15,8 @@ use crate::stop::{ScriptStop, UnitStop};
 use crate::unit::serve_units;
 use backsim_io::{Files, Sink, Source};
 use cell_store::CellStore;
-use owned_text::Text;
 use query_lines::ScriptReader;
+use texts::Text;
 use worker_gate::Crew;
 
 /// The most bytes that a script has.

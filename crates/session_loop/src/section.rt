@@ -7,17 +7,17 @@ ghost use Rattle.reply_lines.specs.Replies.{text_of};
 ghost use Rattle.session_meaning.specs.Replies.{replies_text};
 ghost use Rattle.session_loop.specs.inner.Growing.{shard_line};
 ghost use Rattle.session_loop.specs.inner.Pieces.{Records, RecordsBehind, Replies, RepliesBehind};
-ghost use Rattle.text_fields.specs.Spelling.{field};
+ghost use Rattle.texts.specs.fields.Spelling.{field};
 
 use crate::stop::{JournalStop, RepliesStop};
 use backsim_io::{Files, Sink, write_all, write_file};
 use journal_meaning::Entry;
 use journal_text::{EntryList, SectionKind, push_entry};
-use owned_text::OutOfMemory;
 use query_lines::Item;
 use reply_lines::{Reply, reply_text};
 use std::alloc::Global;
-use text_fields::push_field;
+use texts::OutOfMemory;
+use texts::fields::push_field;
 use worker_gate::Crew;
 
 /// The place of the journal, which is the first file that a session creates.

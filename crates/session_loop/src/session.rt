@@ -14,8 +14,8 @@ use crate::service::Service;
 use crate::stores::empty_stores;
 use backsim_io::{Files, Sink, Source};
 use cell_store::CellStore;
-use owned_text::{OutOfMemory, Text};
 use std::alloc::Global;
+use texts::{OutOfMemory, Text};
 use worker_gate::Crew;
 
 /// The names of a session's own files: those of its inputs, and that of its journal.

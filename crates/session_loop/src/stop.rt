@@ -7,8 +7,8 @@ ghost use Rattle.session_loop.specs.declared.stop.JournalStop.TheVariants as jou
 ghost use Rattle.session_loop.specs.declared.stop.UnitStop.TheVariants as unit;
 ghost use Rattle.session_loop.specs.declared.stop.ScriptStop.TheVariants as script;
 
-use owned_text::OutOfMemory;
 use std::alloc::AllocError;
+use texts::OutOfMemory;
 
 /// Why replies are not written.
 #[derive(Clone, Copy, Debug, PartialEq, Eq)]

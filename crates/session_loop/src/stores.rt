@@ -4,8 +4,8 @@ ghost use Rattle.std.specs.Prelude.{◌≡◌, ◌<◌, ◌≤◌, replicate, []
 ghost use Rattle.cell_store.specs.Recency.{contents};
 
 use cell_store::CellStore;
-use owned_text::OutOfMemory;
 use std::alloc::Global;
+use texts::OutOfMemory;
 use unit_answers::Sizes;
 
 /// An empty store for each shard. A shard's signals are those whose remainder, divided by the number of shards, is its own.

@@ -25,10 +25,10 @@ use crate::tell::{tell_batch, tell_trim};
 use backsim_io::{Files, Sink};
 use cell_store::CellStore;
 use journal_text::SectionKind;
-use owned_text::OutOfMemory;
 use query_lines::{ItemList, Unit, UnitList};
 use reply_lines::{stats_text, trimmed_text};
 use std::alloc::Global;
+use texts::OutOfMemory;
 use unit_answers::{TrimDone, answer_batch, trim_stores};
 use worker_gate::Crew;
 

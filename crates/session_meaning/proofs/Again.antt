@@ -3,7 +3,7 @@ use Rattle.std.proofs.Common.{◌≡◌, ℕ, List, [], ◌∷◌, ◌++◌, len
 use Rattle.std.proofs.lemmas.List.Elements.{All-nil, All-cons, All-push, All-weaker, recursion_from_All}
 use Rattle.circuit_meaning.specs.Circuit.{Circuit, IsCircuit}
 use Rattle.circuit_meaning.proofs.Alike.{held-fits}
-use Rattle.batch_meaning.specs.Batches.{Batch, Site}
+use Rattle.journal_meaning.specs.Batches.{Batch, Site}
 use Rattle.journal_meaning.specs.declared.Entry.{Entry}
 use Rattle.journal_meaning.specs.Replay.{IsLegalBatch}
 use Rattle.journal_meaning.specs.Sections.{Asks, Trims, Forces, SectionEntries, AreLegal, joined_entries}

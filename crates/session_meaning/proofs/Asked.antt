@@ -5,7 +5,7 @@ use Rattle.std.proofs.lemmas.List.Kept.{AllPairs-cons}
 use Rattle.std.proofs.lemmas.List.Quantifiers.{position-Some}
 use Rattle.std.proofs.lemmas.Bool.{leb-true}
 use Rattle.std.specs.Str.{bytes_eq}
-use Rattle.batch_meaning.specs.declared.Query.{Query}
+use Rattle.journal_meaning.specs.declared.batch.Query.{Query}
 use Rattle.query_lines.specs.declared.line.Window.{Window}
 use Rattle.query_lines.specs.declared.unit.Item.{Item}
 use Rattle.query_lines.specs.Units.{asked_window}

@@ -7,8 +7,8 @@ use Rattle.circuit_meaning.specs.Circuit.{Circuit, IsCircuit}
 use Rattle.circuit_meaning.specs.Forward.{wave}
 use Rattle.circuit_meaning.specs.declared.Run.{Run}
 use Rattle.circuit_meaning.proofs.Alike.{held-fits}
-use Rattle.batch_meaning.specs.declared.Query.{Query}
-use Rattle.batch_meaning.specs.Batches.{Batch, Site, NeedOf}
+use Rattle.journal_meaning.specs.declared.batch.Query.{Query}
+use Rattle.journal_meaning.specs.Batches.{Batch, Site, NeedOf}
 use Rattle.journal_meaning.specs.declared.Entry.{Entry}
 use Rattle.journal_meaning.specs.Laws.{IsOwnQuery, IsRoomy, IsLegalFrom, NeedsAtMost}
 use Rattle.journal_meaning.specs.Replay.{IsLegalBatch}

@@ -14,8 +14,8 @@ use Rattle.circuit_meaning.specs.declared.Window.{Window}
 use Rattle.circuit_meaning.specs.Need.{IsNeeded, Root, Child, HasChildren, IsEvaluable}
 use Rattle.circuit_meaning.specs.Forced.{forced_circuit}
 use Rattle.circuit_meaning.proofs.Cover.{cell-covers}
-use Rattle.batch_meaning.specs.declared.Query.{Query}
-use Rattle.batch_meaning.specs.Batches.{Batch, Site, NeedOf, OfQuery, window_of}
+use Rattle.journal_meaning.specs.declared.batch.Query.{Query}
+use Rattle.journal_meaning.specs.Batches.{Batch, Site, NeedOf, OfQuery, window_of}
 use Rattle.journal_meaning.specs.declared.Entry.{Entry}
 use Rattle.journal_meaning.specs.declared.Entry.TheVariants.{Told, Claimed, Filled, Evicted, Dropped, Spent}
 use Rattle.journal_meaning.specs.States.{State, IsLeastRecent, fresh}
@@ -24,7 +24,7 @@ use Rattle.journal_meaning.specs.Allowed.{IsAllowed}
 use Rattle.journal_meaning.specs.Replay.{IsLegal, IsLegalTrim, replay}
 use Rattle.journal_meaning.proofs.Lists.{Each, each-filter, each-right}
 use Rattle.journal_meaning.proofs.Named.{Ours, ClaimsOurs, names, still_ours}
-use Rattle.text_fields.specs.Spelling.{IsNumber}
+use Rattle.texts.specs.fields.Spelling.{IsNumber}
 use Rattle.journal_text.specs.Written.{IsPoint, IsEntry}
 
 -- ---- signals

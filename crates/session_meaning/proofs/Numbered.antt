@@ -6,7 +6,7 @@ use Rattle.std.proofs.lemmas.List.Splits.{length-slice_split}
 use Rattle.std.proofs.lemmas.List.Sums.{count_by-le-length}
 use Rattle.std.proofs.lemmas.List.{length-map}
 use Rattle.std.proofs.lemmas.List.Elements.{recursion_from_All}
-use Rattle.text_rules.specs.Text.{is_feed, less_empty_last, lines}
+use Rattle.texts.specs.Text.{is_feed, less_empty_last, lines}
 use Rattle.journal_meaning.proofs.Lists.{Each, each-append, each-left, each-right}
 use Rattle.query_lines.specs.declared.line.Line.{Line}
 use Rattle.query_lines.specs.declared.line.Line.TheVariants.{Blank, Ask, Go, Bad, Trim, Stats, Question, Vcd}

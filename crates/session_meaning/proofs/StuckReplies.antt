@@ -1,7 +1,7 @@
 -- A right reply to a question for a wave with a stuck signal is of its kind.
 use Rattle.std.proofs.Common.{ℕ, List, Option, Some, None}
 use Rattle.circuit_meaning.specs.Circuit.{Circuit}
-use Rattle.batch_meaning.specs.Batches.{Site}
+use Rattle.journal_meaning.specs.Batches.{Site}
 use Rattle.journal_meaning.specs.declared.Entry.{Entry}
 use Rattle.reply_lines.specs.declared.reply.Explanation.{Explanation}
 use Rattle.reply_lines.specs.declared.reply.Outcome.{Outcome}

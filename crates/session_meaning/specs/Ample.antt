@@ -1,9 +1,9 @@
 -- Ample budgets are served: if a query's budget is at least its need, the reply is its wave.
 use Rattle.std.specs.Prelude.{◌≡◌, ◌≢◌, ⊤, ℕ, List, Option, Some}
 use Rattle.std.specs.List.{AllZip}
-use Rattle.owned_text.specs.Made.{Made}
+use Rattle.texts.specs.Made.{Made}
 use Rattle.circuit_meaning.specs.Forward.{wave}
-use Rattle.batch_meaning.specs.declared.Query.{Query}
+use Rattle.journal_meaning.specs.declared.batch.Query.{Query}
 use Rattle.journal_meaning.specs.declared.Entry.{Entry}
 use Rattle.journal_meaning.specs.Laws.{IsRoomy, NeedsAtMost}
 use Rattle.gate_values.specs.declared.Value.{Value}
@@ -14,7 +14,7 @@ use Rattle.query_lines.specs.declared.unit.Question.{Question}
 use Rattle.query_lines.specs.declared.unit.Unit.{Unit as ScriptUnit}
 use Rattle.query_lines.specs.declared.unit.Unit.TheVariants as units
 use Rattle.query_lines.specs.Reading.{script_units}
-use Rattle.batch_meaning.specs.Batches.{Site}
+use Rattle.journal_meaning.specs.Batches.{Site}
 use Rattle.reply_lines.specs.declared.reply.Explanation.{Explanation}
 use Rattle.reply_lines.specs.declared.reply.Outcome.{Outcome}
 use Rattle.reply_lines.specs.declared.reply.Outcome.TheVariants.{Answer, Budget}

@@ -1,6 +1,6 @@
 -- Laws of sessions.
 use Rattle.std.specs.Prelude.{ℕ, ◌<◌, ◌≤◌, List, [], length, All}
-use Rattle.owned_text.specs.Made.{Made}
+use Rattle.texts.specs.Made.{Made}
 use Rattle.circuit_meaning.specs.Circuit.{IsCircuit}
 use Rattle.design.specs.Joined.{IsDesign}
 use Rattle.journal_meaning.specs.Sections.{AreLegal}

@@ -1,7 +1,7 @@
 -- That the journal of a session is the text of its sections alone.
 use Rattle.std.specs.Prelude.{◌≡◌, ℕ, ◌<◌, ◌≤◌, List}
 use Rattle.std.specs.List.{AllByRecursion}
-use Rattle.text_fields.specs.Spelling.{IsNumber}
+use Rattle.texts.specs.fields.Spelling.{IsNumber}
 use Rattle.journal_text.specs.declared.sections.Section.{Section as WrittenSection}
 use Rattle.journal_text.specs.Spelling.{journal_lines}
 use Rattle.journal_text.specs.Written.{IsSection}

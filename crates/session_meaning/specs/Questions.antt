@@ -1,7 +1,7 @@
 -- Questions, by what they ask: the queries of their batches, the right replies, and what a second memo records.
 use Rattle.std.specs.Prelude.{List, [], map, Option, Some, None}
-use Rattle.batch_meaning.specs.declared.Query.{Query}
-use Rattle.batch_meaning.specs.Batches.{Site}
+use Rattle.journal_meaning.specs.declared.batch.Query.{Query}
+use Rattle.journal_meaning.specs.Batches.{Site}
 use Rattle.journal_meaning.specs.declared.Entry.{Entry}
 use Rattle.query_lines.specs.declared.line.Asks.{Asks}
 use Rattle.query_lines.specs.declared.line.Asks.TheVariants as kinds

@@ -1,7 +1,7 @@
 -- Which outcome of a window, and which reply to an item, is right.
 use Rattle.std.specs.Prelude.{◌≡◌, ⊤, ℕ, List, [], ◌∷◌, ◌++◌, Option, Some, None}
 use Rattle.circuit_meaning.specs.Circuit.{Circuit}
-use Rattle.batch_meaning.specs.declared.Query.{Query}
+use Rattle.journal_meaning.specs.declared.batch.Query.{Query}
 use Rattle.journal_meaning.specs.declared.Entry.{Entry}
 use Rattle.journal_meaning.specs.Answers.{IsAnswer}
 use Rattle.query_lines.specs.declared.unit.Item.{Item}

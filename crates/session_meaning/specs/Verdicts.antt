@@ -1,7 +1,7 @@
 -- What becomes of the window that a line asks for: a query, or why there is none.
 use Rattle.std.specs.Prelude.{ℕ, ◌+◌, nat_le, List, [], ◌∷◌, flat_map, Option, Some, None, option_map, if◌then◌else◌}
-use Rattle.batch_meaning.specs.declared.Query.{Query}
-use Rattle.batch_meaning.specs.Batches.{Site}
+use Rattle.journal_meaning.specs.declared.batch.Query.{Query}
+use Rattle.journal_meaning.specs.Batches.{Site}
 use Rattle.query_lines.specs.declared.line.Asks.{Asks}
 use Rattle.query_lines.specs.declared.line.Asks.TheVariants.{Stuck}
 use Rattle.query_lines.specs.declared.line.Window.{Window}

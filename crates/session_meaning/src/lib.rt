@@ -29,7 +29,7 @@
 ghost use Rattle.session_meaning.specs.Laws.{SessionsAreLegal, EnoughBudgetIsServed, EnoughBudgetsAreServed};
 ghost use Rattle.session_meaning.specs.Laws.{DumpsShowOwnWaves, SessionsAreFrugal, ExplanationsAreAccepted, SessionsKeepPromises, SessionsHaveOneJournal, SessionsAreWhole};
 
-use batch_meaning::Query;
+use journal_meaning::Query;
 use query_lines::{script_units_are_fit, units_have_own_lines};
 
 /// What becomes of a window that a line asks for: a query is asked, or none.

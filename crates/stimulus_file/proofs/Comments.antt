@@ -6,10 +6,10 @@ use Rattle.std.specs.Str.{bytes_eq}
 use Rattle.std.proofs.lemmas.Slice.Eq.{bytes_eq-Decides}
 use Rattle.gate_values.specs.declared.Value.{Value}
 use Rattle.gate_values.specs.Spelling.{value_of_byte, value_of_word}
-use Rattle.text_rules.specs.declared.Amount.{Amount}
-use Rattle.text_rules.specs.declared.Amount.TheVariants.{NoNumber, Above, Within}
-use Rattle.text_rules.specs.Text.{amount, decimal_value, is_hash, is_name, is_number, words}
-use Rattle.text_rules.proofs.Comments.{is_clean, content_clean, words_clean, name_clean, number_clean}
+use Rattle.texts.specs.declared.Amount.{Amount}
+use Rattle.texts.specs.declared.Amount.TheVariants.{NoNumber, Above, Within}
+use Rattle.texts.specs.Text.{amount, decimal_value, is_hash, is_name, is_number, words}
+use Rattle.texts.proofs.Comments.{is_clean, content_clean, words_clean, name_clean, number_clean}
 use Rattle.stimulus_file.specs.declared.form.Form.{Form}
 use Rattle.stimulus_file.specs.declared.form.Form.TheVariants as forms
 use Rattle.stimulus_file.specs.Forms.{Other, horizon_of_amount, horizon_line, setting_of_parts, setting_line, by_words, line_of}

@@ -4,7 +4,7 @@ use Rattle.std.specs.Prelude.{codes}
 use Rattle.std.specs.Str.{bytes_eq}
 use Rattle.std.proofs.lemmas.List.{take-append-drop}
 use Rattle.std.proofs.lemmas.Slice.Eq.{bytes_eq-Decides}
-use Rattle.text_rules.specs.Text.{words}
+use Rattle.texts.specs.Text.{words}
 use Rattle.stimulus_file.specs.Forms.{Other, by_words}
 
 -- `set` and a space

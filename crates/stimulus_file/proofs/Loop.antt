@@ -1,8 +1,8 @@
 -- What all lines say.
 use Rattle.std.proofs.Common.{◌≡◌, ℕ, List, [], map, Option, Some, None, Err, refl, ap, ◌∙◌, inl, inr, ◌⊎◌}
-use Rattle.text_rules.specs.Text.{lines}
-use Rattle.line_faults.specs.declared.causes.LineFault.{LineFault}
-use Rattle.line_faults.specs.Faults.{first_fault}
+use Rattle.texts.specs.Text.{lines}
+use Rattle.texts.specs.declared.line_faults.causes.LineFault.{LineFault}
+use Rattle.texts.specs.line_faults.Faults.{first_fault}
 use Rattle.stimulus_file.specs.declared.StimulusCause.{StimulusCause}
 use Rattle.stimulus_file.specs.declared.reader.StimulusReader.{StimulusReader}
 use Rattle.stimulus_file.specs.Causes.{out_of_memory}

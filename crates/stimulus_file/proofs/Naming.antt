@@ -9,7 +9,7 @@ use Rattle.std.proofs.lemmas.List.{get_or_append_left, get_or_push, get_or-set_s
 use Rattle.std.proofs.lemmas.List.Elements.{All-head, All-tail, All-weaker}
 use Rattle.std.proofs.lemmas.List.Folds.{list_any-append}
 use Rattle.std.proofs.lemmas.Slice.Eq.{bytes_eq-Decides}
-use Rattle.line_faults.specs.Rows.{rows_from}
+use Rattle.texts.specs.line_faults.Rows.{rows_from}
 use Rattle.stimulus_file.specs.declared.NumberedSet.{NumberedSet}
 use Rattle.stimulus_file.specs.Forms.{Line, Blank, Other, Horizon, Setting}
 use Rattle.stimulus_file.specs.Stimulus.{SetRow, sets, row_of}

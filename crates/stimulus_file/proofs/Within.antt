@@ -7,13 +7,13 @@ use Rattle.std.proofs.lemmas.List.Concat.{flat_map-cons}
 use Rattle.std.proofs.lemmas.List.Elements.{All-nil, All-cons, All-append, All-head}
 use Rattle.gate_values.specs.declared.Value.{Value}
 use Rattle.gate_values.specs.Spelling.{value_of_word}
-use Rattle.text_rules.specs.declared.Amount.{Amount}
-use Rattle.text_rules.specs.declared.Amount.TheVariants.{NoNumber, Above, Within}
-use Rattle.text_rules.specs.Text.{amount, content, is_name, lines, words}
-use Rattle.text_rules.proofs.Digits.{within}
-use Rattle.line_faults.specs.declared.causes.LineFault.{LineFault}
-use Rattle.line_faults.specs.Faults.{first_fault, unless_fault}
-use Rattle.line_faults.specs.Rows.{rows_from}
+use Rattle.texts.specs.declared.Amount.{Amount}
+use Rattle.texts.specs.declared.Amount.TheVariants.{NoNumber, Above, Within}
+use Rattle.texts.specs.Text.{amount, content, is_name, lines, words}
+use Rattle.texts.proofs.Digits.{within}
+use Rattle.texts.specs.declared.line_faults.causes.LineFault.{LineFault}
+use Rattle.texts.specs.line_faults.Faults.{first_fault, unless_fault}
+use Rattle.texts.specs.line_faults.Rows.{rows_from}
 use Rattle.stimulus_file.specs.declared.StimulusCause.{StimulusCause}
 use Rattle.stimulus_file.specs.Forms.{Line, Blank, Other, Horizon, Setting, horizon_of_amount, setting_of_parts, by_words, line_of}
 use Rattle.stimulus_file.specs.Stimulus.{Content, SetRow, stated_horizon, cause_of, row_of, rows_of, horizon_of, with_horizon, stimulus_of}

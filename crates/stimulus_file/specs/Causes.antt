@@ -1,7 +1,7 @@
 -- The causes of a refusal.
 use Rattle.std.specs.Prelude.{ℕ}
-use Rattle.line_faults.specs.declared.causes.LineFault.{LineFault}
-use Rattle.line_faults.specs.Faults.{at_no_line}
+use Rattle.texts.specs.declared.line_faults.causes.LineFault.{LineFault}
+use Rattle.texts.specs.line_faults.Faults.{at_no_line}
 use Rattle.stimulus_file.specs.declared.StimulusCause.{StimulusCause}
 use Rattle.stimulus_file.specs.declared.StimulusCause.TheVariants.{Syntax, NoHorizon, Range, Twice, OutOfMemory}
 

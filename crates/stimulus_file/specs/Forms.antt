@@ -3,9 +3,9 @@ use Rattle.std.specs.Prelude.{ℕ, ◌&&◌, List, [], ◌∷◌, Option, Some, 
 use Rattle.std.specs.Str.{bytes_eq}
 use Rattle.gate_values.specs.declared.Value.{Value}
 use Rattle.gate_values.specs.Spelling.{value_of_word}
-use Rattle.text_rules.specs.declared.Amount.{Amount}
-use Rattle.text_rules.specs.declared.Amount.TheVariants.{NoNumber, Above, Within}
-use Rattle.text_rules.specs.Text.{amount, content, is_name, words}
+use Rattle.texts.specs.declared.Amount.{Amount}
+use Rattle.texts.specs.declared.Amount.TheVariants.{NoNumber, Above, Within}
+use Rattle.texts.specs.Text.{amount, content, is_name, words}
 
 -- a line by its form, where a number above its range is None
 pub data Line : Type 0 where

@@ -3,10 +3,10 @@ use Rattle.std.specs.Prelude.{ℕ, Bool, true, false, ◌&&◌, ◌==◌, List, 
 use Rattle.std.specs.List.{list_all, list_any, flat_map}
 use Rattle.std.specs.Str.{bytes_eq}
 use Rattle.gate_values.specs.declared.Value.{Value}
-use Rattle.text_rules.specs.Text.{lines}
-use Rattle.line_faults.specs.declared.causes.LineFault.{LineFault}
-use Rattle.line_faults.specs.Faults.{at_no_line, first_fault, unless_fault}
-use Rattle.line_faults.specs.Rows.{rows_from}
+use Rattle.texts.specs.Text.{lines}
+use Rattle.texts.specs.declared.line_faults.causes.LineFault.{LineFault}
+use Rattle.texts.specs.line_faults.Faults.{at_no_line, first_fault, unless_fault}
+use Rattle.texts.specs.line_faults.Rows.{rows_from}
 use Rattle.stimulus_file.specs.declared.StimulusCause.{StimulusCause}
 use Rattle.stimulus_file.specs.declared.StimulusCause.TheVariants.{Syntax, NoHorizon, Range, Twice}
 use Rattle.stimulus_file.specs.Forms.{Line, Blank, Other, Horizon, Setting, line_of}

@@ -1,13 +1,13 @@
 //! The form of a line.
 
 ghost use Rattle.std.specs.Prelude.{◌≡◌, ◌∷◌, codes};
-ghost use Rattle.text_rules.specs.Text.{words};
+ghost use Rattle.texts.specs.Text.{words};
 ghost use Rattle.stimulus_file.specs.Forms as forms;
 ghost use Rattle.stimulus_file.specs.Forms.{line_of, setting_line};
 ghost use Rattle.stimulus_file.specs.inner.Reading.{line_seen};
 
 use gate_values::Value;
-use text_rules::{Amount, content, is_name, next_word, read_amount};
+use texts::{Amount, content, is_name, next_word, read_amount};
 
 /// The greatest horizon and the greatest time.
 const LAST_TIME: u32 = 1_000_000;

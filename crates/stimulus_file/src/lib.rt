@@ -44,8 +44,8 @@ mod reader;
 mod seen;
 
 use gate_values::Value;
-use line_faults::{LineCause, LineFault};
-use owned_text::Text;
+use texts::Text;
+use texts::line_faults::{LineCause, LineFault};
 pub use reader::read_stimulus;
 use std::marker::Model;
 

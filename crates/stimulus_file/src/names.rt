@@ -4,9 +4,9 @@ ghost use Rattle.std.specs.Prelude.{◌≡◌, ◌<◌, ◌&&◌, [], List, leng
 ghost use Rattle.stimulus_file.specs.declared.NumberedSet.{NumberedSet as Numbered};
 ghost use Rattle.stimulus_file.specs.inner.KeptSettings.{ArePlaces, Finds, HasNames, StandsAt};
 
-use owned_text::{OutOfMemory, Text};
 use std::alloc::Global;
 use std::collections::BTreeMap;
+use texts::{OutOfMemory, Text};
 
 /// The place of a name that is set once more, and whether that is later than ever before.
 #[derive(Clone, Copy)]

@@ -1,7 +1,7 @@
 //! Reading the lines one after the other.
 
 ghost use Rattle.std.specs.Prelude.{◌≤◌, Some, length};
-ghost use Rattle.line_faults.specs.Faults.{Answers};
+ghost use Rattle.texts.specs.line_faults.Faults.{Answers};
 ghost use Rattle.stimulus_file.specs.declared.StimulusCause.TheVariants.{OutOfMemory};
 ghost use Rattle.stimulus_file.specs.Forms.{Setting, Horizon};
 ghost use Rattle.stimulus_file.specs.Stimulus.{stimulus_of};
@@ -12,8 +12,8 @@ use crate::names::Names;
 use crate::seen::{Seen, is_new};
 use crate::{NumberedSet, Stimulus, StimulusCause, StimulusFault};
 use gate_values::Value;
-use line_faults::{LineReader, fault, read_lines};
 use std::alloc::Global;
+use texts::line_faults::{LineReader, fault, read_lines};
 
 /// What is known after some lines.
 #[derive(Drop)]

@@ -9,10 +9,10 @@ use Rattle.std.proofs.lemmas.List.{append-nil}
 use Rattle.std.proofs.lemmas.List.Concat.{flat_map-cons}
 use Rattle.std.proofs.lemmas.List.Folds.{list_all-append, list_any-append}
 use Rattle.gate_values.specs.declared.Kind.{Kind}
-use Rattle.flip_flops.specs.declared.Clock.{Clock}
-use Rattle.line_faults.specs.declared.causes.LineFault.{LineFault}
-use Rattle.line_faults.specs.Reading.{Steps}
-use Rattle.line_faults.proofs.Rows.{rows-push}
+use Rattle.circuit_meaning.specs.declared.flip_flop.Clock.{Clock}
+use Rattle.texts.specs.declared.line_faults.causes.LineFault.{LineFault}
+use Rattle.texts.specs.line_faults.Reading.{Steps}
+use Rattle.texts.proofs.Rows.{rows-push}
 use Rattle.timing_file.specs.declared.TimingCause.{TimingCause}
 use Rattle.timing_file.specs.declared.TimingCause.TheVariants.{OutOfMemory}
 use Rattle.timing_file.specs.declared.TimingRow.{TimingRow}

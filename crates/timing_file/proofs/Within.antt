@@ -10,14 +10,14 @@ use Rattle.gate_values.specs.declared.Value.{Value}
 use Rattle.gate_values.specs.declared.Value.TheVariants.{Zero, One, X, Z}
 use Rattle.gate_values.specs.declared.Kind.{Kind}
 use Rattle.gate_values.specs.Spelling.{kind_of_word, value_of_word}
-use Rattle.flip_flops.specs.Edges.{IsClock}
-use Rattle.text_rules.specs.declared.Amount.{Amount}
-use Rattle.text_rules.specs.declared.Amount.TheVariants.{NoNumber, Above, Within}
-use Rattle.text_rules.specs.Text.{amount, content, is_name, lines, words}
-use Rattle.text_rules.proofs.Digits.{within}
-use Rattle.line_faults.specs.declared.causes.LineFault.{LineFault}
-use Rattle.line_faults.specs.Faults.{first_fault, unless_fault}
-use Rattle.line_faults.specs.Rows.{rows_from}
+use Rattle.circuit_meaning.specs.Edges.{IsClock}
+use Rattle.texts.specs.declared.Amount.{Amount}
+use Rattle.texts.specs.declared.Amount.TheVariants.{NoNumber, Above, Within}
+use Rattle.texts.specs.Text.{amount, content, is_name, lines, words}
+use Rattle.texts.proofs.Digits.{within}
+use Rattle.texts.specs.declared.line_faults.causes.LineFault.{LineFault}
+use Rattle.texts.specs.line_faults.Faults.{first_fault, unless_fault}
+use Rattle.texts.specs.line_faults.Rows.{rows_from}
 use Rattle.timing_file.specs.declared.TimingCause.{TimingCause}
 use Rattle.timing_file.specs.declared.TimingRow.{TimingRow}
 use Rattle.timing_file.specs.declared.ClockRow.{ClockRow}

@@ -5,10 +5,10 @@ use Rattle.gate_values.specs.declared.Value.{Value}
 use Rattle.gate_values.specs.declared.Value.TheVariants.{Z}
 use Rattle.gate_values.specs.declared.Kind.{Kind}
 use Rattle.gate_values.specs.Spelling.{kind_of_word, value_of_word}
-use Rattle.flip_flops.specs.declared.Clock.{Clock}
-use Rattle.text_rules.specs.declared.Amount.{Amount}
-use Rattle.text_rules.specs.declared.Amount.TheVariants.{NoNumber, Above, Within}
-use Rattle.text_rules.specs.Text.{amount, content, is_name, words}
+use Rattle.circuit_meaning.specs.declared.flip_flop.Clock.{Clock}
+use Rattle.texts.specs.declared.Amount.{Amount}
+use Rattle.texts.specs.declared.Amount.TheVariants.{NoNumber, Above, Within}
+use Rattle.texts.specs.Text.{amount, content, is_name, words}
 use Rattle.timing_file.specs.declared.form.Reading.{Reading}
 use Rattle.timing_file.specs.declared.form.Reading.TheVariants.{NotNumbers, Outside, Inside}
 

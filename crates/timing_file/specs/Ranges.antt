@@ -1,7 +1,7 @@
 -- The ranges of what a timing file says.
 use Rattle.std.specs.Prelude.{◌≢◌, ℕ, ◌≤◌, ⊤, All, IfSome}
 use Rattle.gate_values.specs.declared.Value.TheVariants.{Z}
-use Rattle.flip_flops.specs.Edges.{IsClock}
+use Rattle.circuit_meaning.specs.Edges.{IsClock}
 use Rattle.timing_file.specs.declared.TimingWhat.{TimingWhat}
 use Rattle.timing_file.specs.declared.TimingWhat.TheVariants.{Delay, Init, Pin, Clocked}
 use Rattle.timing_file.specs.Timing.{Content}

@@ -2,11 +2,11 @@
 use Rattle.std.specs.Prelude.{ℕ, Bool, true, false, List, [], ◌∷◌, map, Option, Some, None, Result, Ok, if◌then◌else◌, slice_get, unwrap_or}
 use Rattle.std.specs.List.{list_all, list_any, flat_map}
 use Rattle.gate_values.specs.declared.Kind.{Kind}
-use Rattle.flip_flops.specs.declared.Clock.{Clock}
-use Rattle.text_rules.specs.Text.{lines}
-use Rattle.line_faults.specs.declared.causes.LineFault.{LineFault}
-use Rattle.line_faults.specs.Faults.{first_fault, unless_fault}
-use Rattle.line_faults.specs.Rows.{rows_from}
+use Rattle.circuit_meaning.specs.declared.flip_flop.Clock.{Clock}
+use Rattle.texts.specs.Text.{lines}
+use Rattle.texts.specs.declared.line_faults.causes.LineFault.{LineFault}
+use Rattle.texts.specs.line_faults.Faults.{first_fault, unless_fault}
+use Rattle.texts.specs.line_faults.Rows.{rows_from}
 use Rattle.timing_file.specs.declared.TimingCause.{TimingCause}
 use Rattle.timing_file.specs.declared.TimingCause.TheVariants.{Syntax, Range, Twice}
 use Rattle.timing_file.specs.declared.TimingRow.{TimingRow}

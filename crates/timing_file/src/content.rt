@@ -10,11 +10,11 @@ ghost use Rattle.timing_file.specs.inner.Views.{statement_seen};
 
 use crate::statement::Statement;
 use crate::{ClockRow, TimingFault, TimingRow, TimingWhat};
-use flip_flops::Clock;
+use circuit_meaning::Clock;
 use gate_values::Kind;
-use owned_text::Text;
 use std::alloc::Global;
 use std::marker::Model;
+use texts::Text;
 
 /// What the lines so far state.
 #[derive(Drop)]

@@ -1,15 +1,15 @@
 //! The form of a line.
 
 ghost use Rattle.std.specs.Prelude.{◌≡◌, codes};
-ghost use Rattle.text_rules.specs.Text.{words};
+ghost use Rattle.texts.specs.Text.{words};
 ghost use Rattle.timing_file.specs.Forms as forms;
 ghost use Rattle.timing_file.specs.Forms.{line_of, number_in};
 ghost use Rattle.timing_file.specs.inner.Views.{line_seen};
 
 use crate::statement::Statement;
-use flip_flops::Clock;
+use circuit_meaning::Clock;
 use gate_values::{Kind, Value};
-use text_rules::{Amount, content, is_name, next_word, read_amount};
+use texts::{Amount, content, is_name, next_word, read_amount};
 
 /// The greatest delay, first edge and period.
 const MOST: u32 = 1_000_000;

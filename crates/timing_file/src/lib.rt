@@ -52,10 +52,10 @@ mod reader;
 mod statement;
 
 use crate::content::TimingContent;
-use flip_flops::Clock;
+use circuit_meaning::Clock;
 use gate_values::{Kind, Value};
-use line_faults::{LineCause, LineFault};
-use owned_text::Text;
+use texts::Text;
+use texts::line_faults::{LineCause, LineFault};
 pub use reader::read_timing;
 use std::marker::Model;
 

@@ -2,7 +2,7 @@
 
 ghost use Rattle.std.specs.Prelude.{◌≡◌, ◌≤◌, Option, IfOk, IfErr, not, length};
 ghost use Rattle.std.specs.Bool.{OnTrue};
-ghost use Rattle.line_faults.specs.Faults.{Answers};
+ghost use Rattle.texts.specs.line_faults.Faults.{Answers};
 ghost use Rattle.timing_file.specs.declared.TimingCause.TheVariants.{OutOfMemory};
 ghost use Rattle.timing_file.specs.Causes.{out_of_memory};
 ghost use Rattle.timing_file.specs.Forms as forms;
@@ -14,9 +14,9 @@ use crate::content::TimingContent;
 use crate::form::{Form, form_of};
 use crate::statement::{Statement, Subject};
 use crate::{Timing, TimingCause, TimingFault};
-use line_faults::{LineReader, fault, read_lines};
 use std::alloc::Global;
 use std::collections::BTreeSet;
+use texts::line_faults::{LineReader, fault, read_lines};
 
 /// What is known after some lines. The names in `seen` lie in the text.
 #[derive(Drop)]

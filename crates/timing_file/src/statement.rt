@@ -4,7 +4,7 @@ ghost use Rattle.std.specs.Prelude.{◌≡◌};
 ghost use Rattle.timing_file.specs.Subjects as subjects;
 ghost use Rattle.timing_file.specs.inner.Views.{statement_seen, subject_seen};
 
-use flip_flops::Clock;
+use circuit_meaning::Clock;
 use gate_values::{Kind, Value};
 
 /// What a line states, with its numbers in their ranges.

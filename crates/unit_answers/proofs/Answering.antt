@@ -4,7 +4,7 @@ use Rattle.std.specs.List.{AllZip}
 use Rattle.circuit_meaning.specs.declared.Run.{Run}
 use Rattle.circuit_meaning.specs.Circuit.{Circuit}
 use Rattle.journal_meaning.specs.declared.Entry.{Entry}
-use Rattle.batch_meaning.specs.declared.Query.{Query}
+use Rattle.journal_meaning.specs.declared.batch.Query.{Query}
 use Rattle.journal_meaning.specs.Answers.{IsAnswer}
 use Rattle.plan_machine.specs.Settle.{answer_of, AreAnswered}
 use Rattle.query_lines.specs.declared.unit.Item.{Item}
@@ -13,7 +13,7 @@ use Rattle.reply_lines.specs.declared.reply.Outcome.TheVariants as outcomes
 use Rattle.reply_lines.specs.declared.reply.Reply.TheVariants.{Window}
 use Rattle.reply_lines.specs.Replies.{is_budget}
 use Rattle.design.specs.Joined.{Joined}
-use Rattle.window_answers.specs.Phases.{IsOutcomeFor, AreOutcomes, refused_of}
+use Rattle.query_answers.specs.windows.Phases.{IsOutcomeFor, AreOutcomes, refused_of}
 use Rattle.session_meaning.specs.declared.Verdict.{Verdict}
 use Rattle.session_meaning.specs.declared.Verdict.TheVariants.{Ask, Unknown, Past}
 use Rattle.session_meaning.specs.Verdicts.{verdict_of, item_queries, queries_of}

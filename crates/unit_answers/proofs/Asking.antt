@@ -2,9 +2,9 @@
 use Rattle.std.proofs.Common.{◌≡◌, ℕ, List, [], ◌∷◌, map, sym, ap, subst, ◌∙◌, arith, ◌+◌, Some, Option, None, option_map, append-nil}
 use Rattle.gate_values.specs.declared.Value.{Value}
 use Rattle.valid_intervals.specs.declared.Cell.{Cell}
-use Rattle.batch_meaning.specs.declared.Query.{Query}
-use Rattle.batch_meaning.specs.Batches.{Site}
-use Rattle.batch_meaning.specs.Lawful.{IsLawful}
+use Rattle.journal_meaning.specs.declared.batch.Query.{Query}
+use Rattle.journal_meaning.specs.Batches.{Site}
+use Rattle.journal_meaning.specs.Lawful.{IsLawful}
 use Rattle.journal_meaning.specs.declared.Entry.{Entry}
 use Rattle.query_lines.specs.declared.line.Asks.{Asks}
 use Rattle.query_lines.specs.declared.line.Asks.TheVariants as kinds
@@ -29,7 +29,7 @@ use Rattle.session_meaning.specs.Session.{Setup, question_batch}
 use Rattle.session_meaning.specs.Explanations.{IsExplained, IsWhyOutcome}
 use Rattle.session_meaning.specs.StuckSignals.{IsHeldMemo}
 use Rattle.session_meaning.proofs.Asked.{asks-within, asks-signal, window-asks}
-use Rattle.first_times.proofs.Lawful.{first-lawful}
+use Rattle.query_answers.proofs.Lawful.{first-lawful}
 use Rattle.unit_answers.specs.Stores.{IsSized}
 use Rattle.unit_answers.specs.inner.Runs.{asks, asks_at}
 use Rattle.unit_answers.specs.inner.Asked.{IsSiteOf, IsAsked}

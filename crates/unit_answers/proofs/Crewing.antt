@@ -8,9 +8,9 @@ use Rattle.circuit_meaning.specs.Circuit.{Circuit}
 use Rattle.journal_meaning.specs.declared.Entry.{Entry}
 use Rattle.journal_meaning.specs.Counts.{booked_count}
 use Rattle.journal_meaning.specs.Grown.{AreAdded}
-use Rattle.batch_meaning.specs.Batches.{Batch}
-use Rattle.batch_meaning.specs.Pieces.{Start}
-use Rattle.strand_meaning.specs.Strands.{Strand, started_strand}
+use Rattle.journal_meaning.specs.Batches.{Batch}
+use Rattle.journal_meaning.specs.Pieces.{Start}
+use Rattle.plan_machine.specs.Strands.{Strand, started_strand}
 use Rattle.plan_machine.specs.Shards.{Shard}
 use Rattle.plan_machine.specs.Settle.{journals_of}
 use Rattle.circuit_meaning.specs.declared.Run.{Run}
@@ -19,7 +19,7 @@ use Rattle.demand_points.specs.declared.strand.Task.{Task}
 use Rattle.demand_points.specs.Demands.{Demand}
 use Rattle.memo_shards.specs.KeptShards.{KeptShard}
 use Rattle.plan_core.specs.Parts.{shards_in, strands_in}
-use Rattle.window_answers.specs.Settlement.{HasSettled}
+use Rattle.query_answers.specs.windows.Settlement.{HasSettled}
 use Rattle.plan_core.specs.InTurn.{task_of, booked_by}
 use Rattle.worker_gate.specs.Ends.{AreEnds, AreFilled}
 use Rattle.unit_answers.specs.Crewed.{IsEndOf, HasCrewed}

@@ -15,7 +15,7 @@ use Rattle.query_lines.specs.declared.unit.Item.{Item}
 use Rattle.circuit_meaning.specs.declared.Run.{Run}
 use Rattle.reply_lines.specs.declared.reply.Outcome.{Outcome}
 use Rattle.reply_lines.specs.declared.reply.Reply.{Reply}
-use Rattle.window_answers.specs.Phases.{refused_of}
+use Rattle.query_answers.specs.windows.Phases.{refused_of}
 use Rattle.session_meaning.specs.Verdicts.{verdict_of, queries_of}
 use Rattle.session_meaning.specs.Replies.{IsReply}
 use Rattle.session_meaning.specs.Session.{Setup, batch_of, trim_entries}

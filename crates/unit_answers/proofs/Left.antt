@@ -4,8 +4,8 @@ use Rattle.std.proofs.lemmas.List.{get_or-map, length-map}
 use Rattle.std.proofs.lemmas.List.Elements.{All-from_recursion}
 use Rattle.cell_store.specs.Recency.{Contents, contents}
 use Rattle.journal_meaning.specs.declared.Entry.{Entry}
-use Rattle.batch_meaning.specs.declared.Query.{Query}
-use Rattle.batch_meaning.specs.Batches.{Site}
+use Rattle.journal_meaning.specs.declared.batch.Query.{Query}
+use Rattle.journal_meaning.specs.Batches.{Site}
 use Rattle.journal_meaning.specs.States.{State, fresh}
 use Rattle.journal_meaning.specs.Allowed.{IsRight}
 use Rattle.journal_meaning.specs.Replay.{replay, IsAtEnd, IsLegalBatch}

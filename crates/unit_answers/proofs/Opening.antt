@@ -5,7 +5,7 @@ use Rattle.std.proofs.lemmas.List.Elements.{All-push, All-nil, All-head, All-tai
 use Rattle.valid_intervals.specs.declared.SignalCell.{SignalCell}
 use Rattle.cell_store.specs.Recency.{Contents, contents}
 use Rattle.journal_meaning.specs.declared.Entry.{Entry}
-use Rattle.batch_meaning.specs.Batches.{Batch}
+use Rattle.journal_meaning.specs.Batches.{Batch}
 use Rattle.memo_shards.specs.KeptShards.{KeptShard, shard_at}
 use Rattle.plan_core.specs.Parts.{AreInOrder}
 use Rattle.unit_answers.specs.inner.Runs.{store_of, AreOpened, AreBegun}

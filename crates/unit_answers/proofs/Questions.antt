@@ -5,8 +5,8 @@ use Rattle.std.proofs.lemmas.List.{get_or-map, length-map}
 use Rattle.valid_intervals.specs.declared.SignalCell.{SignalCell}
 use Rattle.cell_store.specs.Recency.{Contents, contents}
 use Rattle.journal_meaning.specs.declared.Entry.{Entry}
-use Rattle.batch_meaning.specs.declared.Query.{Query}
-use Rattle.batch_meaning.specs.Batches.{Batch, Site}
+use Rattle.journal_meaning.specs.declared.batch.Query.{Query}
+use Rattle.journal_meaning.specs.Batches.{Batch, Site}
 use Rattle.journal_meaning.specs.States.{fresh}
 use Rattle.journal_meaning.specs.Replay.{replay, IsLegalBatch}
 use Rattle.journal_meaning.specs.Sections.{of_batch}

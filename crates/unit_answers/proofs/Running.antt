@@ -8,12 +8,12 @@ use Rattle.valid_intervals.specs.Spans.{Span}
 use Rattle.cell_store.specs.Recency.{Contents}
 use Rattle.circuit_meaning.specs.Circuit.{Circuit}
 use Rattle.journal_meaning.specs.declared.Entry.{Entry}
-use Rattle.batch_meaning.specs.declared.Query.{Query}
-use Rattle.batch_meaning.specs.Batches.{Batch}
+use Rattle.journal_meaning.specs.declared.batch.Query.{Query}
+use Rattle.journal_meaning.specs.Batches.{Batch}
 use Rattle.journal_meaning.proofs.Lists.{Each, each-append}
-use Rattle.batch_meaning.specs.Lawful.{IsLawful}
-use Rattle.strand_meaning.specs.Strands.{Strand, started_strand}
-use Rattle.batch_meaning.specs.Pieces.{Start, spans_of, starts_of, pieces}
+use Rattle.journal_meaning.specs.Lawful.{IsLawful}
+use Rattle.plan_machine.specs.Strands.{Strand, started_strand}
+use Rattle.journal_meaning.specs.Pieces.{Start, spans_of, starts_of, pieces}
 use Rattle.plan_machine.specs.Shards.{Shard}
 use Rattle.plan_machine.specs.Plans.{no_shard}
 use Rattle.plan_machine.specs.Sound.{IsFresh}
@@ -25,8 +25,8 @@ use Rattle.demand_points.specs.Demands.{Demand}
 use Rattle.memo_shards.specs.KeptShards.{KeptShard}
 use Rattle.plan_core.specs.InTurn.{AreStarted}
 use Rattle.plan_core.specs.Parts.{shards_in, strands_in}
-use Rattle.window_answers.specs.Strands.{IsInOrder}
-use Rattle.window_answers.specs.Settlement.{HasSettled}
+use Rattle.query_answers.specs.windows.Strands.{IsInOrder}
+use Rattle.query_answers.specs.windows.Settlement.{HasSettled}
 use Rattle.session_meaning.specs.Session.{Setup, batch_of}
 use Rattle.worker_gate.specs.Ends.{AreNew}
 use Rattle.unit_answers.specs.Stores.{IsSized}

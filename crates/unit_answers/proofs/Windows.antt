@@ -1,6 +1,6 @@
 -- The times of a window's query.
 use Rattle.std.proofs.Common.{◌≡◌, ℕ, ◌+◌, Bool, true, false, cond, nat_le, Option, Some, None, refl, subst}
-use Rattle.batch_meaning.specs.declared.Query.{Query}
+use Rattle.journal_meaning.specs.declared.batch.Query.{Query}
 use Rattle.query_lines.specs.declared.line.Window.{Window}
 use Rattle.design.specs.Joined.{Joined}
 use Rattle.design.specs.Join.{number}

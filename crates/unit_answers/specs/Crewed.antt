@@ -3,9 +3,9 @@ use Rattle.std.specs.Prelude.{◌≡◌, ◌≢◌, ℕ, ◌+◌, ◌<◌, Bool,
 use Rattle.journal_meaning.specs.declared.Entry.{Entry}
 use Rattle.journal_meaning.specs.Counts.{booked_count}
 use Rattle.journal_meaning.specs.Grown.{AreAdded}
-use Rattle.batch_meaning.specs.Pieces.{Start}
-use Rattle.strand_meaning.specs.Strands.{Strand, next}
-use Rattle.strand_meaning.specs.declared.Next.TheVariants.{Done}
+use Rattle.journal_meaning.specs.Pieces.{Start}
+use Rattle.plan_machine.specs.Strands.{Strand, next}
+use Rattle.plan_machine.specs.declared.strand.Next.TheVariants.{Done}
 use Rattle.demand_points.specs.Demands.{Demand}
 
 -- A strand with this start has ended. It is spent only at its full budget, and the count is the number of its claims and fills.

@@ -4,12 +4,12 @@ ghost use Rattle.std.specs.Prelude.{◌≡◌, None};
 ghost use Rattle.unit_answers.specs.inner.Asked.{IsSiteOf, Prepares, unasked_reply};
 
 use crate::replies::no_answer;
-use batch_meaning::Query;
 use design::Design;
+use journal_meaning::Query;
+use query_answers::windows::verdict_of;
 use query_lines::{Asks, Question};
 use reply_lines::QuestionReply;
 use session_meaning::Verdict;
-use window_answers::verdict_of;
 
 /// The query of a question, and the number of the stuck signal if it has one.
 #[derive(Clone, Copy)]

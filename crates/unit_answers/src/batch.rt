@@ -1,7 +1,7 @@
 //! A batch of items.
 
 ghost use Rattle.std.specs.Prelude.{◌≡◌, ◌≢◌, flat_map, AllPairs, IfOk};
-ghost use Rattle.batch_meaning.specs.Pieces.{pieces};
+ghost use Rattle.journal_meaning.specs.Pieces.{pieces};
 ghost use Rattle.query_lines.specs.Laws.{IsWithin};
 ghost use Rattle.session_meaning.specs.Verdicts.{queries_of};
 ghost use Rattle.unit_answers.specs.Crewed.{HasCrewed};
@@ -14,12 +14,12 @@ use crate::sizes::Sizes;
 use cell_store::CellStore;
 use design::Design;
 use journal_text::EntryList;
-use owned_text::OutOfMemory;
+use query_answers::windows::verdicts_of;
 use query_lines::Item;
 use reply_lines::Reply;
 use std::alloc::Global;
 use std::marker::Brand;
-use window_answers::verdicts_of;
+use texts::OutOfMemory;
 use worker_gate::Crew;
 
 /// The result of a batch: the reply to each item, the journal of each shard, and the stores after it.

@@ -11,10 +11,10 @@ ghost use Rattle.vcd_answers.specs.Dumps.{vcd_of};
 ghost use Rattle.vcd_answers.specs.Wires.{is_wire};
 
 use design::Design;
-use owned_text::OutOfMemory;
 use query_lines::{Item, What};
 use reply_lines::{Outcome, Reply};
 use std::alloc::Global;
+use texts::OutOfMemory;
 use vcd_answers::{Wire, WireList, vcd_text, wire_of};
 
 /// The text of a dump, and the number of its wires.

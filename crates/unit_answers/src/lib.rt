@@ -17,7 +17,7 @@
 //! No cell and no journal is copied. A batch takes the time of its strands and its settlement, and one step for each item and each shard. A
 //! question for a first time or an explanation takes one look-up of its name, a step for each shard, and the time of its walk
 //! (`first_times`, `explanations`). One for a wave with a stuck signal takes also what is worked out of that signal, unless the question
-//! before was about the same one: so [`answer_question`] is given a `stuck_faults::AskedDesign`, which keeps it. A trim takes O(log n) steps
+//! before was about the same one: so [`answer_question`] is given a `query_answers::stuck::AskedDesign`, which keeps it. A trim takes O(log n) steps
 //! for each cell that it removes from n.
 //!
 //! ```text

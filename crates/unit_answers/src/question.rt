@@ -1,12 +1,12 @@
 //! A question.
 
 ghost use Rattle.std.specs.Prelude.{◌≡◌, length, IfOk};
-ghost use Rattle.batch_meaning.specs.Lawful.{IsLawful};
+ghost use Rattle.journal_meaning.specs.Lawful.{IsLawful};
 ghost use Rattle.journal_meaning.specs.Sections.{of_batch};
 ghost use Rattle.plan_machine.specs.Settle.{entries_in};
 ghost use Rattle.plan_machine.specs.Sound.{IsFresh};
 ghost use Rattle.plan_core.specs.Parts.{shards_in};
-ghost use Rattle.asked_cells.specs.Shards.{AreNumbered, AreUnused};
+ghost use Rattle.plan_core.specs.asked.Shards.{AreNumbered, AreUnused};
 ghost use Rattle.query_lines.specs.Laws.{SuitsWindow};
 ghost use Rattle.session_meaning.specs.Questions.{question_queries, IsRightReply, IsOwnMemo};
 ghost use Rattle.session_meaning.specs.Session.{question_batch};
@@ -21,16 +21,16 @@ use crate::run::{begin_all, end_all, no_entries};
 use crate::sizes::Sizes;
 use cell_store::CellStore;
 use demand_points::BatchName;
-use explanations::explain;
-use first_times::first_time;
 use journal_text::EntryList;
 use memo_shards::Shard;
-use owned_text::OutOfMemory;
+use query_answers::explanations::explain;
+use query_answers::first_times::first_time;
+use query_answers::stuck::{AskedDesign, stuck_wave};
 use query_lines::{Asks, Question};
 use reply_lines::QuestionReply;
 use std::alloc::Global;
 use std::marker::Brand;
-use stuck_faults::{AskedDesign, stuck_wave};
+use texts::OutOfMemory;
 
 /// The result of a question: the reply, the journal of each shard, and the stores after it.
 #[derive(Drop)]

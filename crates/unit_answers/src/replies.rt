@@ -5,12 +5,12 @@ ghost use Rattle.std.specs.Vec.Iter.{into_iter_items, into_iter_len};
 ghost use Rattle.session_meaning.specs.Verdicts.{item_queries};
 ghost use Rattle.unit_answers.specs.inner.Placed.{no_answer, reply_to, left_by, placed_replies};
 
-use batch_meaning::Query;
-use owned_text::OutOfMemory;
+use journal_meaning::Query;
 use reply_lines::{Outcome, Reply};
 use session_meaning::Verdict;
 use std::alloc::Global;
 use std::vec::IntoIter;
+use texts::OutOfMemory;
 use window_walks::Runs;
 
 /// The queries that are asked.

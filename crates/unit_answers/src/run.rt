@@ -2,22 +2,22 @@
 
 ghost use Rattle.std.specs.Prelude.{◌≡◌, ◌≤◌, [], length, map, flat_map, All, IfOk};
 ghost use Rattle.cell_store.specs.Recency.{Contents};
-ghost use Rattle.batch_meaning.specs.Pieces.{pieces};
+ghost use Rattle.journal_meaning.specs.Pieces.{pieces};
 ghost use Rattle.unit_answers.specs.Stores.{setup_of, cells_of, AreStores};
 ghost use Rattle.unit_answers.specs.Crewed.{HasCrewed};
 ghost use Rattle.unit_answers.specs.inner.Runs.{asks, IsNamed, AreOpened, AreBegun, AreEnded, HasRun};
 
 use crate::sizes::Sizes;
-use batch_meaning::Query;
 use cell_store::CellStore;
 use demand_points::BatchName;
 use design::Design;
+use journal_meaning::Query;
 use journal_text::EntryList;
 use memo_shards::Shard;
-use owned_text::OutOfMemory;
+use query_answers::windows::{Settled, settle, strands_of};
 use reply_lines::Outcome;
 use std::alloc::Global;
-use window_answers::{Settled, settle, strands_of};
+use texts::OutOfMemory;
 use window_walks::Runs;
 use worker_gate::Crew;
 

@@ -10,8 +10,8 @@ use cell_store::{CellStore, Key};
 use design::Design;
 use journal_meaning::Entry;
 use journal_text::EntryList;
-use owned_text::OutOfMemory;
 use std::alloc::Global;
+use texts::OutOfMemory;
 
 /// The result of a trim: the entries of each shard, and the stores after it.
 #[derive(Drop)]

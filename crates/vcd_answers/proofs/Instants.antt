@@ -12,7 +12,7 @@ use Rattle.std.specs.Ordering.{nat_cmp}
 use Rattle.std.proofs.lemmas.Fmt.{decimal_digit}
 use Rattle.gate_values.specs.declared.Value.TheVariants.{X}
 use Rattle.circuit_meaning.specs.declared.Run.{Run}
-use Rattle.text_rules.specs.Text.{is_name}
+use Rattle.texts.specs.Text.{is_name}
 use Rattle.vcd_answers.specs.declared.writing.Event.{Event}
 use Rattle.vcd_answers.specs.Wires.{Wire, last_time, goes_on, are_changes, is_wire}
 use Rattle.vcd_answers.specs.Dumps.{first_code, is_at, change_line, time_line, change_lines, changes_at, is_instant, instant_lines, body_lines, var_line, var_lines, with_line_feed, vcd_of}

@@ -1,8 +1,8 @@
 -- A change that is put to a wire; the runs behind the last; no line.
 use Rattle.std.proofs.Common.{◌≡◌, ℕ, zero, suc, ◌<◌, ◌≤◌, leb, List, [], ◌∷◌, ◌++◌, length, get_or, set, drop, sym, ap, ◌∙◌, arith}
 use Rattle.circuit_meaning.specs.declared.Run.{Run}
-use Rattle.text_rules.specs.Text.{lines}
-use Rattle.text_rules.proofs.Stream.{no_line}
+use Rattle.texts.specs.Text.{lines}
+use Rattle.texts.proofs.Stream.{no_line}
 use Rattle.vcd_answers.specs.Wires.{Wire, goes_on}
 use Rattle.vcd_answers.specs.inner.Reading.{put_at}
 use Rattle.vcd_answers.proofs.Sound.{last_is}

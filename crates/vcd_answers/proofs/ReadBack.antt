@@ -8,7 +8,7 @@ use Rattle.gate_values.specs.declared.Value.{Value}
 use Rattle.gate_values.specs.declared.Value.TheVariants.{Zero, One, X, Z}
 use Rattle.gate_values.specs.Spelling.{byte_of_value}
 use Rattle.circuit_meaning.specs.declared.Run.{Run}
-use Rattle.text_rules.specs.Text.{lines}
+use Rattle.texts.specs.Text.{lines}
 use Rattle.vcd_answers.specs.declared.writing.Event.{Event}
 use Rattle.vcd_answers.specs.declared.reading.Line.TheVariants.{Time, Change}
 use Rattle.vcd_answers.specs.Wires.{Wire, last_time, is_wire, AreWires}

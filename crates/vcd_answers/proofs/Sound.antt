@@ -8,7 +8,7 @@ use Rattle.gate_values.specs.Gates.{same_value}
 use Rattle.circuit_meaning.specs.declared.Run.{Run}
 use Rattle.circuit_meaning.specs.Circuit.{Circuit}
 use Rattle.circuit_meaning.specs.Forward.{value, wave}
-use Rattle.text_rules.specs.Text.{is_name}
+use Rattle.texts.specs.Text.{is_name}
 use Rattle.window_walks.specs.Runs.{maximal_runs}
 use Rattle.vcd_answers.specs.Wires.{Wire, last_time, changes_of, shown_value, wire_runs, wire_of_query, goes_on, are_changes, is_wire}
 use Rattle.gate_values.proofs.Same.{same-sym, same_is}

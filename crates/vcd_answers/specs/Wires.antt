@@ -7,7 +7,7 @@ use Rattle.gate_values.specs.Gates.{same_value}
 use Rattle.circuit_meaning.specs.declared.Run.{Run}
 use Rattle.circuit_meaning.specs.Circuit.{Circuit}
 use Rattle.circuit_meaning.specs.Forward.{value}
-use Rattle.text_rules.specs.Text.{is_name}
+use Rattle.texts.specs.Text.{is_name}
 
 -- a name, and the times at which a value begins
 pub record Wire : Type 0 where

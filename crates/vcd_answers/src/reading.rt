@@ -1,6 +1,6 @@
 //! Reading a dump: the text is read leniently, the dump of what was read is written, and the bytes are compared.
 ghost use Rattle.std.specs.Prelude.{◌≡◌, ◌≢◌, ℕ, ◌<◌, ◌≤◌, ◌∷◌, [], List, length, drop, Some, IfOk, IfSome, IfNone};
-ghost use Rattle.text_rules.specs.Text.{lines, amount};
+ghost use Rattle.texts.specs.Text.{lines, amount};
 ghost use Rattle.vcd_answers.specs.Dumps.{vcd_of};
 ghost use Rattle.vcd_answers.specs.Wires.{AreWires, Wire as WireRecord};
 ghost use Rattle.vcd_answers.specs.inner.Reading.{line_at, time_in, change_in, is_var, name_in, with_names, with_changes, read_of};
@@ -9,9 +9,8 @@ use crate::wire::{Wire, WireList};
 use crate::writing::vcd_text;
 use circuit_meaning::Run;
 use gate_values::Value;
-use owned_text::OutOfMemory;
 use std::alloc::Global;
-use text_rules::{Amount, next_line, read_amount};
+use texts::{Amount, OutOfMemory, next_line, read_amount};
 
 /// The line of a time, or of a change of the wire at a place.
 #[derive(Clone, Copy)]

@@ -4,7 +4,7 @@ ghost use Rattle.std.specs.List.{list_all};
 ghost use Rattle.gate_values.specs.Gates.{same_value};
 ghost use Rattle.circuit_meaning.specs.Circuit.{Circuit};
 ghost use Rattle.circuit_meaning.specs.Forward.{wave};
-ghost use Rattle.text_rules.specs.Text as text;
+ghost use Rattle.texts.specs.Text as text;
 ghost use Rattle.window_walks.specs.Runs.{maximal_runs};
 ghost use Rattle.vcd_answers.specs.Wires.{wire_of_query, before_window, wire_runs, goes_on, are_changes, AreWires};
 ghost use Rattle.vcd_answers.specs.Wires as wires;
@@ -12,10 +12,9 @@ ghost use Rattle.vcd_answers.specs.inner.Reading.{blank, put_at};
 
 use circuit_meaning::Run;
 use gate_values::Value;
-use owned_text::OutOfMemory;
 use std::alloc::Global;
 use std::marker::Model;
-use text_rules::is_name;
+use texts::{OutOfMemory, is_name};
 use window_walks::Runs;
 
 /// A wire of a dump: its name, and the times at which a value begins.

@@ -10,8 +10,8 @@ use crate::wire::{Wire, WireList};
 use circuit_meaning::Run;
 use gate_values::Value;
 use itoa::Buffer;
-use owned_text::OutOfMemory;
 use std::alloc::Global;
+use texts::OutOfMemory;
 
 /// A change of the wire with this code.
 #[derive(Clone, Copy)]

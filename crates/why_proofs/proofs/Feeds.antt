@@ -10,12 +10,12 @@ use Rattle.std.proofs.lemmas.Bool.{and_parts}
 use Rattle.gate_values.specs.declared.Value.{Value}
 use Rattle.gate_values.specs.declared.Value.TheVariants.{Zero, One, X, Z}
 use Rattle.gate_values.specs.Spelling.{byte_of_value}
-use Rattle.text_rules.specs.Text.{is_name, is_name_byte, is_filled}
+use Rattle.texts.specs.Text.{is_name, is_name_byte, is_filled}
 use Rattle.valid_intervals.specs.declared.SignalCell.{SignalCell}
-use Rattle.text_fields.specs.Spelling.{field, IsNumber}
+use Rattle.texts.specs.fields.Spelling.{field, IsNumber}
 use Rattle.why_proofs.specs.Spelling.{last_field, claim_line, cell_line, IsLine}
 use Rattle.why_proofs.specs.Broken.{first_lines}
-use Rattle.text_fields.proofs.Numbers.{own}
+use Rattle.texts.proofs.Numbers.{own}
 
 -- no line feed is among the bytes
 abbrev pub HasNoFeed : List ℕ → Type 0

@@ -7,14 +7,14 @@ use Rattle.std.proofs.lemmas.Bool.{and_parts}
 use Rattle.gate_values.specs.Spelling.{byte_of_value}
 use Rattle.gate_values.specs.declared.Value.{Value}
 use Rattle.gate_values.specs.declared.Value.TheVariants.{Zero, One, X, Z}
-use Rattle.text_rules.specs.Text.{is_name, is_name_byte, is_filled}
+use Rattle.texts.specs.Text.{is_name, is_name_byte, is_filled}
 use Rattle.valid_intervals.specs.declared.SignalCell.{SignalCell}
-use Rattle.text_fields.specs.Spelling.{field, IsNumber}
+use Rattle.texts.specs.fields.Spelling.{field, IsNumber}
 use Rattle.why_proofs.specs.Spelling.{last_field, claim_line, cell_line, IsLine}
-use Rattle.text_fields.specs.Reading.{◌>>=◌, after_word, field_at, value_at}
+use Rattle.texts.specs.fields.Reading.{◌>>=◌, after_word, field_at, value_at}
 use Rattle.why_proofs.specs.inner.Reading.{last_field_at, is_space, name_before, name_at, Claim, claim_at, cell_at, line_of}
-use Rattle.text_fields.proofs.Items.{AreSpelled}
-use Rattle.text_fields.proofs.Fields.{bind_some, after_takes, field_takes, field_again, value_takes}
+use Rattle.texts.proofs.Items.{AreSpelled}
+use Rattle.texts.proofs.FieldLemmas.{bind_some, after_takes, field_takes, field_again, value_takes}
 
 -- ---- the end of a line
 

@@ -17,7 +17,7 @@ use Rattle.valid_intervals.specs.declared.Cell.{Cell}
 use Rattle.valid_intervals.specs.declared.SignalCell.{SignalCell}
 use Rattle.valid_intervals.specs.Cells.{covers}
 use Rattle.valid_intervals.specs.Spans.{Span, IsIn, moved_span}
-use Rattle.flip_flops.specs.Edges.{shown_edge}
+use Rattle.circuit_meaning.specs.Edges.{shown_edge}
 use Rattle.circuit_meaning.specs.declared.Pin.{Pin}
 use Rattle.circuit_meaning.specs.Circuit.{Circuit, Driver, Input, Gate, Flop, driver, IsCircuit}
 use Rattle.circuit_meaning.specs.Forward.{value, value_from, seen_value, flop_value}
@@ -28,7 +28,7 @@ use Rattle.circuit_meaning.proofs.Equations.{map_same, all_imply, value_is, span
 use Rattle.circuit_meaning.proofs.Steady.{seen-early, seen-late, pin_span-early, pin_span-late, cell-steady}
 use Rattle.circuit_meaning.proofs.BaseCells.{base-answers}
 use Rattle.design.specs.Joined.{Joined}
-use Rattle.pin_walks.proofs.PinWalkLemmas.{take-none}
+use Rattle.design.proofs.PinWalkLemmas.{take-none}
 use Rattle.why_proofs.specs.Spelling.{Proof}
 use Rattle.why_proofs.specs.Justified.{Answers, base_or, line_at, answer, value_in, span_in, looked_in, IsAnswered, AreAnswered, rule_value, rule_span, rule_cell, IsJustified, AreJustified, IsJustifiedProof}
 use Rattle.why_proofs.specs.Laws.{IsTrueLine}

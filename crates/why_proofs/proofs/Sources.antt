@@ -7,7 +7,7 @@ use Rattle.std.proofs.lemmas.List.{get_or_default}
 use Rattle.gate_values.specs.declared.Kind.TheVariants.{Dff}
 use Rattle.gate_values.specs.Gates.{decides, up_to_first}
 use Rattle.valid_intervals.specs.declared.Point.{Point}
-use Rattle.flip_flops.specs.Edges.{shown_edge}
+use Rattle.circuit_meaning.specs.Edges.{shown_edge}
 use Rattle.circuit_meaning.specs.declared.Pin.{Pin}
 use Rattle.circuit_meaning.specs.Circuit.{Circuit, Driver, Input, Gate, Flop, driver, IsCircuit}
 use Rattle.circuit_meaning.specs.Cells.{looked_pins}
@@ -18,8 +18,8 @@ use Rattle.circuit_meaning.proofs.Looking.{cut-sources}
 use Rattle.why_proofs.specs.Justified.{Answers, looked_in, IsAnswered, AreAnswered}
 use Rattle.valid_intervals.specs.declared.Cell.{Cell}
 use Rattle.circuit_meaning.specs.Cells.{cell_at}
-use Rattle.pin_walks.specs.declared.walk.PinWalk.{PinWalk}
-use Rattle.pin_walks.specs.PinWalks.{looked_at, next_point}
+use Rattle.design.specs.declared.pin_walk.PinWalk.{PinWalk}
+use Rattle.design.specs.PinWalks.{looked_at, next_point}
 use Rattle.why_proofs.specs.inner.Known.{IsKnown, AreKnown, IsRuled}
 use Rattle.why_proofs.proofs.Sound.{AreRight, looked-from, looked-to}
 

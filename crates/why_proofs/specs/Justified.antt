@@ -11,7 +11,7 @@ use Rattle.valid_intervals.specs.declared.Cell.{Cell}
 use Rattle.valid_intervals.specs.declared.SignalCell.{SignalCell}
 use Rattle.valid_intervals.specs.Cells.{stored_at}
 use Rattle.valid_intervals.specs.Spans.{Span, from_to}
-use Rattle.flip_flops.specs.Edges.{shown_edge, flop_span}
+use Rattle.circuit_meaning.specs.Edges.{shown_edge, flop_span}
 use Rattle.circuit_meaning.specs.declared.Pin.{Pin}
 use Rattle.circuit_meaning.specs.Circuit.{Driver, Input, Gate, Flop, Circuit, driver}
 use Rattle.circuit_meaning.specs.Forward.{last_setting, input_value, seen_value, flop_value}

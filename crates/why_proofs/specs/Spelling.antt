@@ -3,8 +3,8 @@ use Rattle.std.specs.Prelude.{◌≡◌, ℕ, true, List, [], ◌∷◌, ◌++�
 use Rattle.std.specs.List.{AllByRecursion}
 use Rattle.gate_values.specs.declared.Value.{Value}
 use Rattle.gate_values.specs.Spelling.{byte_of_value}
-use Rattle.text_fields.specs.Spelling.{field, IsNumber}
-use Rattle.text_rules.specs.Text.{is_name}
+use Rattle.texts.specs.fields.Spelling.{field, IsNumber}
+use Rattle.texts.specs.Text.{is_name}
 use Rattle.valid_intervals.specs.declared.SignalCell.{SignalCell}
 
 -- a value after a blank, and the end of the line

@@ -11,9 +11,9 @@ use crate::known::KnownCells;
 use crate::reading::{cells_of, claim_of};
 use design::Design;
 use gate_values::Value;
-use owned_text::OutOfMemory;
 use std::alloc::Global;
-use text_fields::after;
+use texts::OutOfMemory;
+use texts::fields::after;
 
 /// What a checker answers of a text. Lines are counted from 1.
 #[derive(Clone, Copy, Debug, PartialEq, Eq)]

@@ -9,16 +9,15 @@ ghost use Rattle.valid_intervals.specs.Cells.{point_cmp};
 ghost use Rattle.valid_intervals.specs.declared.SignalCell.{SignalCell};
 ghost use Rattle.why_proofs.specs.Spelling.{Proof};
 ghost use Rattle.why_proofs.specs.Justified.{answer, line_at, IsJustified, IsClaimed};
-ghost use Rattle.pin_walks.specs.PinWalks.{IsPoint, IsPinWalk, IsLooking, LooksOn};
+ghost use Rattle.design.specs.PinWalks.{IsPoint, IsPinWalk, IsLooking, LooksOn};
 ghost use Rattle.why_proofs.specs.inner.Known.{IsTrueCell, AreTrueCells, IsIndexOf, Hears, Rules, Judges, Accepts, place_of};
 
 use crate::cells::CellLine;
-use design::Design;
+use design::{Design, PinWalk};
 use gate_values::Value;
-use owned_text::OutOfMemory;
-use pin_walks::PinWalk;
 use std::alloc::Global;
 use std::collections::BTreeMap;
+use texts::OutOfMemory;
 use valid_intervals::{Cell, Point};
 
 /// Cells of signals, found by the points that they cover.

@@ -1,15 +1,14 @@
 //! Reading a proof. Each function reads what stands at the front of the bytes, and gives the bytes after it.
 
 ghost use Rattle.std.specs.Prelude.{◌≡◌, length, position, IfOk};
-ghost use Rattle.text_fields.specs.Reading.{read_is};
+ghost use Rattle.texts.specs.fields.Reading.{read_is};
 ghost use Rattle.why_proofs.specs.inner.Reading.{words_are, claim_is, last_field_at, name_at, claim_at, cell_at, cells_at, is_space};
 
 use crate::cells::CellLine;
 use gate_values::Value;
-use owned_text::OutOfMemory;
 use std::alloc::Global;
-use text_fields::{after, field_of, value_of};
-use text_rules::is_name;
+use texts::fields::{after, field_of, value_of};
+use texts::{OutOfMemory, is_name};
 
 /// The first line of a proof: its name, time and value, and what comes after the line.
 #[tactic(auto, unfolding(crate::specs::inner::Reading::claim_at))]

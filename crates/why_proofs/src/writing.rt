@@ -5,9 +5,9 @@ ghost use Rattle.why_proofs.specs.Spelling.{last_field, cell_line, proof_lines};
 
 use crate::CellList;
 use gate_values::Value;
-use owned_text::OutOfMemory;
 use std::alloc::{AllocError, Global};
-use text_fields::push_field;
+use texts::OutOfMemory;
+use texts::fields::push_field;
 use valid_intervals::SignalCell;
 
 /// The text of a proof that the signal of this name has this value at this time: its first line, a line for each cell, and `end`.

@@ -8,9 +8,9 @@ ghost use Rattle.circuit_meaning.specs.declared.Run.{Run as RunRecord};
 
 use circuit_meaning::Run;
 use gate_values::Value;
-use owned_text::OutOfMemory;
 use std::alloc::Global;
 use std::marker::Model;
+use texts::OutOfMemory;
 
 /// The runs of a waveform: the times at which a value begins, in order.
 #[derive(Drop)]

@@ -9,9 +9,9 @@ ghost use Rattle.window_walks.specs.Runs.{with_point};
 ghost use Rattle.window_walks.specs.Walks.{IsWalked};
 
 use crate::runs::Runs;
-use owned_text::OutOfMemory;
 use std::alloc::Global;
 use std::marker::Model;
+use texts::OutOfMemory;
 use valid_intervals::Cell;
 
 /// A window of a signal that is walked from cell to cell, and its runs so far.

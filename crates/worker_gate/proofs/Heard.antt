@@ -9,8 +9,8 @@ use Rattle.journal_meaning.specs.Answers.{IsCovered}
 use Rattle.journal_meaning.specs.declared.Entry.{Entry}
 use Rattle.journal_meaning.specs.declared.Entry.TheVariants.{Filled}
 use Rattle.memo_shards.specs.KeptShards.{KeptShard}
-use Rattle.asked_cells.specs.Heard.{IsHeard}
-use Rattle.asked_cells.specs.Memos.{entries_of}
+use Rattle.plan_core.specs.asked.Heard.{IsHeard}
+use Rattle.plan_core.specs.asked.Memos.{entries_of}
 
 pub fills-heard : (c : Circuit) (es : List Entry) (ms : List KeptShard) → ((k : ℕ) (m : KeptShard) → slice_get ms k ≡ Some m → All (IsHeard c es) m.shard.journal)
     → (q : ℕ) (p : Point) (x : Cell) → Contains (entries_of ms) (Filled q p x) → All (IsCovered c es) (children c p.signal p.time)

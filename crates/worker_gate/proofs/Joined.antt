@@ -9,12 +9,12 @@ use Rattle.std.proofs.lemmas.List.{length-drop, drop-drop, take-append-drop, map
 use Rattle.std.proofs.lemmas.List.Concat.{flat_map-append}
 use Rattle.journal_meaning.specs.declared.Entry.{Entry}
 use Rattle.memo_shards.specs.KeptShards.{KeptShard}
-use Rattle.asked_cells.specs.declared.fill_counts.FillCounts.{FillCounts}
-use Rattle.asked_cells.specs.declared.said.Said.{Said}
-use Rattle.asked_cells.specs.FillCounts.{HaveCounted}
-use Rattle.asked_cells.specs.Memos.{entries_of}
-use Rattle.asked_cells.proofs.Counted.{none-counted, both-counted}
-use Rattle.asked_cells.proofs.Entries.{entries-append}
+use Rattle.plan_core.specs.declared.asked.fill_counts.FillCounts.{FillCounts}
+use Rattle.plan_core.specs.declared.asked.said.Said.{Said}
+use Rattle.plan_core.specs.asked.FillCounts.{HaveCounted}
+use Rattle.plan_core.specs.asked.Memos.{entries_of}
+use Rattle.plan_core.proofs.Counted.{none-counted, both-counted}
+use Rattle.plan_core.proofs.Entries.{entries-append}
 use Rattle.worker_gate.specs.Said.{AreJoined}
 
 -- so many chunks reach the end

@@ -5,8 +5,8 @@ use Rattle.std.proofs.lemmas.Option.{slice_get_within, get_or_from_slice_get}
 use Rattle.demand_points.specs.declared.strand.Task.{Task}
 use Rattle.demand_points.specs.Demands.{Demand}
 use Rattle.std.specs.Bool.{Decides}
-use Rattle.strand_meaning.specs.Strands.{next}
-use Rattle.strand_meaning.specs.declared.Next.TheVariants.{Done}
+use Rattle.plan_machine.specs.Strands.{next}
+use Rattle.plan_machine.specs.declared.strand.Next.TheVariants.{Done}
 use Rattle.plan_core.specs.InTurn.{task_of}
 use Rattle.worker_gate.specs.Ends.{HasEnded, HaveEnded, AreEnds, AreCounted, AreFilled, one_if_empty, empty_in}
 

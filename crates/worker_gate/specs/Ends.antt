@@ -2,8 +2,8 @@
 use Rattle.std.specs.Prelude.{◌≡◌, ◌≢◌, ℕ, ◌+◌, ◌<◌, true, false, List, [], length, sum_by, Option, Some, None, slice_get, slice_index}
 use Rattle.demand_points.specs.declared.strand.Task.{Task}
 use Rattle.demand_points.specs.Demands.{Demand}
-use Rattle.strand_meaning.specs.Strands.{next}
-use Rattle.strand_meaning.specs.declared.Next.TheVariants.{Done}
+use Rattle.plan_machine.specs.Strands.{next}
+use Rattle.plan_machine.specs.declared.strand.Next.TheVariants.{Done}
 use Rattle.plan_core.specs.InTurn.{made_by, task_of}
 
 -- The strand has ended, with this number and this task; it is spent only at its full budget, and it has claimed and filled so often.

@@ -1,7 +1,7 @@
 -- What several threads have noted of the entries of shards.
 use Rattle.std.specs.Prelude.{◌≡◌, List, map, flat_map, Result, Ok}
-use Rattle.asked_cells.specs.declared.fill_counts.FillCounts.{FillCounts}
-use Rattle.asked_cells.specs.declared.said.Said.{Said}
+use Rattle.plan_core.specs.declared.asked.fill_counts.FillCounts.{FillCounts}
+use Rattle.plan_core.specs.declared.asked.said.Said.{Said}
 
 -- each part was read, and these are the counts of all, part after part
 pub record AreJoined {E : Type 0} (parts : List (Result Said E)) (fills : List FillCounts) : Type 0 where

@@ -5,8 +5,8 @@ ghost use Rattle.plan_core.specs.InTurn.{task_of};
 
 use demand_points::{BatchName, Strand, Task};
 use memo_shards::Shard;
-use owned_text::OutOfMemory;
 use std::alloc::Global;
+use texts::OutOfMemory;
 
 /// The shards of a batch, its strands, and what each strand was started with, in the order of their numbers.
 #[derive(Drop)]

@@ -1,8 +1,8 @@
 //! The board: the strands that have ended, and what workers that wait look at.
 
 ghost use Rattle.std.specs.Prelude.{◌≡◌, ◌+◌, true, false, Some, None, length, slice_get, IfErr};
-ghost use Rattle.strand_meaning.specs.Strands.{next};
-ghost use Rattle.strand_meaning.specs.declared.Next.TheVariants.{Done};
+ghost use Rattle.plan_machine.specs.Strands.{next};
+ghost use Rattle.plan_machine.specs.declared.strand.Next.TheVariants.{Done};
 ghost use Rattle.plan_core.specs.InTurn.{task_of};
 ghost use Rattle.worker_gate.specs.Ends.{HaveEnded, AreFilled, empty_in};
 

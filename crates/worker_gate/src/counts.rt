@@ -9,9 +9,9 @@ use crate::board::booked_of;
 use demand_points::{BatchName, Strand};
 use journal_meaning::Entry;
 use memo_shards::Shard;
-use owned_text::OutOfMemory;
 use std::alloc::Global;
 use std::sync::Wait;
+use texts::OutOfMemory;
 
 // Whether the entry begins a claim or fills a point.
 fn is_booked(entry: &Entry) -> bool

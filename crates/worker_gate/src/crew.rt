@@ -5,7 +5,7 @@ ghost use Rattle.journal_text.specs.Spelling.{entry_line};
 ghost use Rattle.plan_core.specs.InTurn.{AllChildrenCovered, AreStarted, task_of, booked_by};
 ghost use Rattle.plan_core.specs.Parts.{shards_in, strands_in, AreInOrder};
 ghost use Rattle.plan_machine.specs.Settle.{entries_in};
-ghost use Rattle.asked_cells.specs.FillCounts.{HaveCounted};
+ghost use Rattle.plan_core.specs.asked.FillCounts.{HaveCounted};
 ghost use Rattle.worker_gate.specs.Ends.{AreNew, AreEnds, AreFilled};
 
 use crate::begun::{Begun, tasks_of};
@@ -18,10 +18,10 @@ use demand_points::{BatchName, Strand};
 use design::Design;
 use journal_meaning::Entry;
 use memo_shards::Shard;
-use owned_text::OutOfMemory;
 use std::alloc::Global;
 use std::sync::Wait;
 use std::thread::Threads;
+use texts::OutOfMemory;
 
 /// Workers that run the strands of a batch.
 pub trait Crew {

@@ -2,24 +2,24 @@
 //! what was evaluated has heard its children.
 
 ghost use Rattle.std.specs.Prelude.{◌≡◌, ◌↔◌, ◌<◌, ℕ, Bool, true, IsTrue, length, slice_index_or, vec_len, All, IfOk};
-ghost use Rattle.batch_meaning.specs.Lawful.{IsLawful};
+ghost use Rattle.journal_meaning.specs.Lawful.{IsLawful};
 ghost use Rattle.memo_shards.specs.KeptShards.{IsKnownShard};
 ghost use Rattle.plan_core.specs.InTurn.{AllChildrenCovered};
 ghost use Rattle.plan_core.specs.Parts.{shards_in};
 ghost use Rattle.plan_machine.specs.Settle.{entries_in};
-ghost use Rattle.asked_cells.specs.FillCounts.{HaveCounted};
-ghost use Rattle.asked_cells.specs.Memos.{entries_of};
+ghost use Rattle.plan_core.specs.asked.FillCounts.{HaveCounted};
+ghost use Rattle.plan_core.specs.asked.Memos.{entries_of};
 ghost use Rattle.worker_gate.specs.Heard.{HaveHeard};
 ghost use Rattle.worker_gate.specs.Said.{AreJoined};
 
-use asked_cells::{Places, Said, has_heard};
 use demand_points::BatchName;
 use design::Design;
 use memo_shards::{Shard, know_all};
-use owned_text::OutOfMemory;
+use plan_core::asked::{Places, Said, has_heard};
 use std::alloc::Global;
-use std::thread;
 use std::thread::Threads;
+use std::thread;
+use texts::OutOfMemory;
 
 /// With fewer entries one thread looks sooner than several are started.
 const ENTRIES_FOR_TWO: usize = 16_384;

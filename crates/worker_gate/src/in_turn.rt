@@ -12,9 +12,9 @@ use crate::ran::{CountList, EndedList, Ran, ShardList};
 use demand_points::{BatchName, Strand};
 use design::Design;
 use memo_shards::{Shard, know_all};
-use owned_text::OutOfMemory;
 use plan_core::run_in_turn;
 use std::alloc::Global;
+use texts::OutOfMemory;
 
 /// Makes the turns of one strand after another, each until it has ended, and no more than `most`, where it is given. Returns whether no
 /// strand was refused a point, or none where turns may be left.

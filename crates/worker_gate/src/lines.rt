@@ -5,10 +5,10 @@ ghost use Rattle.journal_text.specs.Spelling.{entry_line};
 
 use journal_meaning::Entry;
 use journal_text::push_entry;
-use owned_text::OutOfMemory;
 use std::alloc::Global;
-use std::thread;
 use std::thread::Threads;
+use std::thread;
+use texts::OutOfMemory;
 
 /// How long a line is, at a guess.
 const LINE: usize = 30;

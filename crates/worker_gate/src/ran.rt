@@ -2,9 +2,9 @@
 
 ghost use Rattle.std.specs.Prelude.{◌≡◌, ◌<◌, Some, None, length, slice_get, slice_index, MatchOption};
 
-use asked_cells::Said;
 use demand_points::{BatchName, Strand};
 use memo_shards::Shard;
+use plan_core::asked::Said;
 use std::marker::Model;
 
 /// The shards, in the order of their numbers.

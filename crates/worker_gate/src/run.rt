@@ -5,7 +5,7 @@ ghost use Rattle.plan_core.specs.InTurn.{AllChildrenCovered, booked_by};
 ghost use Rattle.plan_core.specs.Parts.{shards_in, AreInOrder};
 ghost use Rattle.plan_machine.specs.Settle.{entries_in};
 ghost use Rattle.ready_queue.specs.Queue.{IsPassOf, IsFreshPassOf};
-ghost use Rattle.asked_cells.specs.FillCounts.{HaveCounted};
+ghost use Rattle.plan_core.specs.asked.FillCounts.{HaveCounted};
 ghost use Rattle.worker_gate.specs.Ends.{AreEnds, AreFilled};
 
 use crate::begun::Begun;
@@ -20,12 +20,12 @@ use crossbeam_utils::CachePadded;
 use demand_points::{BatchName, Strand, Task};
 use design::Design;
 use memo_shards::Shard;
-use owned_text::OutOfMemory;
 use ready_queue::{QueuePass, ReadyQueue};
 use std::alloc::Global;
 use std::sync::{Condvar, Mutex, Wait};
-use std::thread;
 use std::thread::Threads;
+use std::thread;
+use texts::OutOfMemory;
 
 // Puts a shard behind a lock, with the number of its claims and fills.
 fn lock_one<B: BatchName>(shard: Shard<B>) -> LockedShard<B> {

@@ -1,10 +1,10 @@
 //! What the lock of a shard keeps.
 
 ghost use Rattle.std.specs.Prelude.{◌≡◌, ◌<◌, ◌-◌, ◌^◌, true, None, IfOk, IfSome, IsSome};
-ghost use Rattle.batch_meaning.specs.Batches.{shard_number};
+ghost use Rattle.journal_meaning.specs.Batches.{shard_number};
 ghost use Rattle.journal_meaning.specs.States.{holder};
-ghost use Rattle.strand_meaning.specs.Strands.{next as next_of};
-ghost use Rattle.strand_meaning.specs.declared.Next.TheVariants as next;
+ghost use Rattle.plan_machine.specs.Strands.{next as next_of};
+ghost use Rattle.plan_machine.specs.declared.strand.Next.TheVariants as next;
 ghost use Rattle.valid_intervals.specs.Cells.{stored_at};
 ghost use Rattle.valid_intervals.specs.declared.Point.{Point};
 ghost use Rattle.memo_shards.specs.Asks.{OfPark};
@@ -15,7 +15,7 @@ ghost use Rattle.plan_core.specs.InTurn.{booked_by};
 
 use demand_points::{BatchName, Strand};
 use memo_shards::{Grant, Request, Shard};
-use owned_text::OutOfMemory;
+use texts::OutOfMemory;
 use valid_intervals::Point;
 
 /// A shard, and how many claims and fills it has recorded.

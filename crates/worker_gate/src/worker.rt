@@ -5,8 +5,8 @@ ghost use Rattle.std.specs.Sync.Mutex.{mutex_guard_value};
 ghost use Rattle.memo_shards.specs.Steps.{MayStep};
 ghost use Rattle.memo_shards.specs.Grants.{IsGranted, step_of};
 ghost use Rattle.ready_queue.specs.Queue.{IsPassOf};
-ghost use Rattle.strand_meaning.specs.Strands.{next as next_of};
-ghost use Rattle.strand_meaning.specs.declared.Next.TheVariants.{Done};
+ghost use Rattle.plan_machine.specs.Strands.{next as next_of};
+ghost use Rattle.plan_machine.specs.declared.strand.Next.TheVariants.{Done};
 
 use crate::board::Board;
 use crate::gate::{Gate, Pass};
@@ -15,10 +15,10 @@ use crossbeam_utils::CachePadded;
 use demand_points::{BatchName, Strand};
 use design::Design;
 use memo_shards::{Grant, Request, Step, follow, request_of, shard_number};
+use plan_machine::Next;
 use ready_queue::{QueuePass, ReadyQueue};
 use std::hint::spin_loop;
 use std::sync::{Condvar, Mutex, MutexGuard, Wait};
-use strand_meaning::Next;
 
 /// How often a lock is tried before the thread sleeps for it.
 const TRIES: u32 = 50;

@@ -10,13 +10,13 @@ ghost use Rattle.workload.specs.inner.Drawn.{HasInputs};
 
 use crate::draws::Draws;
 use crate::read::{items_in, joined, netlist_in, stimulus_in, timing_in};
-use crate::texts::{netlist_text, script_text, stimulus_text};
+use crate::writing::{netlist_text, script_text, stimulus_text};
 use bench_reader::Netlist;
 use design::Design;
-use owned_text::OutOfMemory;
 use query_lines::ItemList;
 use std::alloc::Global;
 use stimulus_file::Stimulus;
+use texts::OutOfMemory;
 
 /// The netlist; its gates use the first draws.
 pub fn drawn_netlist(alloc: Global, draws: &mut Draws) -> Result<Netlist, OutOfMemory>

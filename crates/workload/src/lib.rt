@@ -28,15 +28,15 @@ mod drawn;
 mod draws;
 mod lines;
 mod read;
-mod texts;
 mod words;
+mod writing;
 
 use crate::drawn::{drawn_design, drawn_items, drawn_netlist};
 use crate::draws::Draws;
 use design::Design;
-use owned_text::OutOfMemory;
 use query_lines::ItemList;
 use std::alloc::Global;
+use texts::OutOfMemory;
 
 /// A circuit with its inputs, and the items of one batch.
 #[derive(Drop)]

@@ -5,8 +5,8 @@ ghost use Rattle.std.specs.Prelude.{◌≡◌, ◌++◌, ◌+◌, ◌<◌, OnOk}
 ghost use Rattle.workload.specs.Texts as texts;
 
 use crate::words::{write_below, write_gate, write_input, write_kind, write_word};
-use owned_text::OutOfMemory;
-use text_fields::write_number;
+use texts::OutOfMemory;
+use texts::fields::write_number;
 
 /// Room for the line of a gate whose numbers have ten digits each.
 const LONGEST_LINE: usize = 78;

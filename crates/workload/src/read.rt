@@ -10,10 +10,10 @@ ghost use Rattle.query_lines.specs.declared.unit.Unit.TheVariants.{Batch};
 
 use bench_reader::{Netlist, read_bench};
 use design::Design;
-use owned_text::OutOfMemory;
 use query_lines::{ItemList, Unit, UnitList, read_script};
 use std::alloc::Global;
 use stimulus_file::{Stimulus, read_stimulus};
+use texts::OutOfMemory;
 use timing_file::{Timing, read_timing};
 
 /// The greatest length that the readers take.

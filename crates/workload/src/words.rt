@@ -5,7 +5,7 @@
 ghost use Rattle.std.specs.Prelude.{◌≡◌, ◌+◌, ◌<◌, ◌≤◌, ◌++◌, length, drop};
 ghost use Rattle.workload.specs.Texts.{input_name, gate, below, kind};
 
-use text_fields::write_number;
+use texts::fields::write_number;
 
 /// Writes a word. Where it is a constant, this is one store or two.
 #[inline(always)]

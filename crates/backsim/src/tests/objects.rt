@@ -5,11 +5,11 @@ ghost use Rattle.std.specs.Prelude.{◌≡◌, ◌<◌, IfOk};
 use crate::serve::serve;
 use crate::status::Status;
 use backsim_io::{Files, MemFiles, MemSink, MemSource, Sink, Source};
-use owned_text::Text;
 use std::alloc::Global;
 use std::sync::Wait;
 use std::test::Fail;
 use std::thread::Threads;
+use texts::Text;
 use worker_gate::OpenGate;
 
 /// An object that a session is served over.

@@ -1,7 +1,7 @@
 -- Definitions for proofs and private functions, beside `FilesInMemory`.
 use Rattle.std.specs.Prelude.{ℕ, List, Option, Some, None, [], map, slice_get, option_map, unwrap_or, Vec, ◌+◌, ◌≤◌, IfSome, vec_len, vec_capacity}
 use Rattle.std.specs.Global.{Global}
-use Rattle.owned_text.specs.Made.{Made}
+use Rattle.texts.specs.Made.{Made}
 
 -- the bytes of the file at this place; none if there is no file
 abbrev pub bytes_at : List (List ℕ × Vec ℕ Global) → Option ℕ → List ℕ

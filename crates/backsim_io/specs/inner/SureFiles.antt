@@ -1,6 +1,6 @@
 -- Definitions for proofs and private functions, beside `SureFiles`.
 use Rattle.std.specs.Prelude.{ℕ, ◌≡◌, List, [], take}
-use Rattle.owned_text.specs.Made.{Made}
+use Rattle.texts.specs.Made.{Made}
 use Rattle.backsim_io.specs.KeptBytes.{KeptBytes}
 
 -- the first 255 bytes of a file's name, and the first bytes of the file that the room allows

@@ -1,8 +1,8 @@
 -- Texts, each in a place of its own or in one list of bytes.
 use Rattle.std.specs.Prelude.{ℕ, ◌≤◌, List, length, take, slice_range}
 use Rattle.std.specs.List.{All}
-use Rattle.bench_reader.specs.declared.texts.Place.{Place}
-use Rattle.bench_reader.specs.declared.texts.Place.TheVariants.{Short, Long}
+use Rattle.bench_reader.specs.declared.text_list.Place.{Place}
+use Rattle.bench_reader.specs.declared.text_list.Place.TheVariants.{Short, Long}
 
 -- the text that is kept there
 abbrev pub text_at : List ℕ → Place → List ℕ

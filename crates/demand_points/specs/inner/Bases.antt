@@ -5,10 +5,10 @@ use Rattle.valid_intervals.specs.declared.Point.{Point}
 use Rattle.circuit_meaning.specs.Circuit.{Circuit}
 use Rattle.circuit_meaning.specs.Need.{IsEvaluable}
 use Rattle.circuit_meaning.specs.Looks.{somes}
-use Rattle.strand_meaning.specs.Strands as strands
-use Rattle.strand_meaning.specs.Strands.{is_evaluable}
-use Rattle.pin_walks.specs.declared.walk.PinWalk.{PinWalk}
-use Rattle.pin_walks.specs.PinWalks.{IsPinWalk, IsLooking, LooksOn, cell_there, looked_at, next_point}
+use Rattle.plan_machine.specs.Strands as strands
+use Rattle.plan_machine.specs.Strands.{is_evaluable}
+use Rattle.design.specs.declared.pin_walk.PinWalk.{PinWalk}
+use Rattle.design.specs.PinWalks.{IsPinWalk, IsLooking, LooksOn, cell_there, looked_at, next_point}
 
 -- the children that a point still waits for, once its first n pins were looked at
 abbrev pub left_after : Circuit → Point → ℕ → List Point

@@ -5,14 +5,14 @@ use Rattle.valid_intervals.specs.declared.Point.{Point}
 use Rattle.circuit_meaning.specs.declared.Window.{Window}
 use Rattle.circuit_meaning.specs.Circuit.{Circuit}
 use Rattle.circuit_meaning.specs.Need.{IsRoot, IsEvaluable}
-use Rattle.batch_meaning.specs.Batches.{Batch, window_of}
+use Rattle.journal_meaning.specs.Batches.{Batch, window_of}
 use Rattle.circuit_meaning.specs.Cells.{cell_at}
-use Rattle.batch_meaning.specs.Lawful.{IsLawful}
-use Rattle.strand_meaning.specs.Strands.{Strand, IsStrand}
-use Rattle.pin_walks.specs.declared.walk.PinWalk.{PinWalk}
+use Rattle.journal_meaning.specs.Lawful.{IsLawful}
+use Rattle.plan_machine.specs.Strands.{Strand, IsStrand}
+use Rattle.design.specs.declared.pin_walk.PinWalk.{PinWalk}
 use Rattle.demand_points.specs.declared.parts.Parts.{Parts}
 use Rattle.demand_points.specs.inner.Stacks.{IsTop, with_top}
-use Rattle.pin_walks.specs.PinWalks.{IsPinWalk, IsLooking, next_point}
+use Rattle.design.specs.PinWalks.{IsPinWalk, IsLooking, next_point}
 use Rattle.demand_points.specs.inner.Bases.{IsReady, shown_frame}
 use Rattle.demand_points.specs.Demands.{Demand, IsLastHeard, roots_left}
 

@@ -1,6 +1,6 @@
 -- What a batch name stands for.
 use Rattle.std.specs.Prelude.{[], None}
-use Rattle.batch_meaning.specs.Batches.{Batch}
+use Rattle.journal_meaning.specs.Batches.{Batch}
 
 -- the batch of no name in particular
 abbrev pub no_batch : Batch

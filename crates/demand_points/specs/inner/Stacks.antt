@@ -1,6 +1,6 @@
 -- The top of a stack of claimed points.
 use Rattle.std.specs.Prelude.{◌≡◌, List, [], ◌∷◌}
-use Rattle.pin_walks.specs.declared.walk.PinWalk.{PinWalk}
+use Rattle.design.specs.declared.pin_walk.PinWalk.{PinWalk}
 
 abbrev pub IsTop : List PinWalk → PinWalk → Type 0
 IsTop [] f = ⊥

@@ -8,7 +8,7 @@ use Rattle.std.specs.Cmp.Lexicographic.{slice_cmp}
 use Rattle.std.specs.BTreeMap.{BTreeMap, get, get_by}
 use Rattle.std.specs.Borrow.{Bor}
 use Rattle.gate_values.specs.declared.Kind.{Kind}
-use Rattle.flip_flops.specs.declared.Clock.{Clock}
+use Rattle.circuit_meaning.specs.declared.flip_flop.Clock.{Clock}
 use Rattle.circuit_meaning.specs.declared.Setting.{Setting}
 use Rattle.circuit_meaning.specs.declared.FlipFlop.{FlipFlop}
 use Rattle.bench_reader.specs.Netlists as netlists

@@ -6,7 +6,7 @@ use Rattle.journal_meaning.specs.declared.Entry.TheVariants.{Told, Claimed, Fill
 use Rattle.journal_meaning.specs.Answers.{IsCovered}
 use Rattle.circuit_meaning.specs.Cells.{cell_at}
 use Rattle.circuit_meaning.specs.Circuit.{Circuit}
-use Rattle.batch_meaning.specs.Batches.{shard_number}
+use Rattle.journal_meaning.specs.Batches.{shard_number}
 
 -- the entry is for another query, or for none
 abbrev pub IsForOther : ℕ → Entry → Type 0

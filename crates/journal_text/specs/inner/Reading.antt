@@ -1,6 +1,6 @@
 -- How a text is read: each function gives what stands at the front of the bytes, and the bytes after it.
 use Rattle.std.specs.Prelude.{ℕ, zero, suc, ◌+◌, ◌&&◌, nat_lt, nat_le, ◌==◌, List, [], ◌∷◌, length, codes, Option, Some, None, if◌then◌else◌}
-use Rattle.text_fields.specs.Reading.{◌>>=◌, after_word, field_at, items_at, value_at}
+use Rattle.texts.specs.fields.Reading.{◌>>=◌, after_word, field_at, items_at, value_at}
 use Rattle.valid_intervals.specs.declared.Cell.{Cell}
 use Rattle.valid_intervals.specs.declared.Point.{Point}
 use Rattle.valid_intervals.specs.Spans.{from_to}

@@ -1,9 +1,9 @@
 -- Definitions for proofs and private functions, beside `Parts`.
 use Rattle.std.specs.Prelude.{ℕ, false, List, [], map, Option}
 use Rattle.valid_intervals.specs.declared.SignalCell.{SignalCell}
-use Rattle.batch_meaning.specs.Batches.{Batch}
-use Rattle.batch_meaning.specs.Lawful.{IsLawful}
-use Rattle.strand_meaning.specs.Strands.{Strand}
+use Rattle.journal_meaning.specs.Batches.{Batch}
+use Rattle.journal_meaning.specs.Lawful.{IsLawful}
+use Rattle.plan_machine.specs.Strands.{Strand}
 use Rattle.plan_machine.specs.Plans.{Plan}
 use Rattle.plan_machine.specs.inner.KeptPlans.{WaitedShard, plan_of, IsKeptPlan}
 use Rattle.plan_machine.specs.Sound.{IsSound}

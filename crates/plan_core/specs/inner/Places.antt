@@ -1,7 +1,7 @@
 -- The places of strands: one for each number, with a gap if its strand waits.
 use Rattle.std.specs.Prelude.{◌≡◌, ℕ, ◌<◌, List, [], ◌∷◌, map, slice_get, Option, Some, None}
-use Rattle.strand_meaning.specs.declared.Next.{Next}
-use Rattle.strand_meaning.specs.Strands.{Strand, next}
+use Rattle.plan_machine.specs.declared.strand.Next.{Next}
+use Rattle.plan_machine.specs.Strands.{Strand, next}
 use Rattle.plan_machine.specs.inner.Parts.{NumberedStrand}
 use Rattle.demand_points.specs.Demands.{Demand}
 use Rattle.memo_shards.specs.inner.Seen.{numbered_strand}

@@ -1,11 +1,11 @@
 -- Definitions for proofs and private functions, beside `Refusals`.
 use Rattle.std.specs.Prelude.{◌≡◌, ℕ, false, true, List, slice_get, Option, Some, None, Result, Ok, Err}
-use Rattle.owned_text.specs.declared.OutOfMemory.{OutOfMemory}
+use Rattle.texts.specs.declared.OutOfMemory.{OutOfMemory}
 use Rattle.valid_intervals.specs.declared.Point.{Point}
 use Rattle.valid_intervals.specs.declared.SignalCell.{SignalCell}
-use Rattle.batch_meaning.specs.Batches.{Batch}
-use Rattle.strand_meaning.specs.declared.Next.TheVariants.{Ask}
-use Rattle.strand_meaning.specs.Strands.{Strand, next, next_in}
+use Rattle.journal_meaning.specs.Batches.{Batch}
+use Rattle.plan_machine.specs.declared.strand.Next.TheVariants.{Ask}
+use Rattle.plan_machine.specs.Strands.{Strand, next, next_in}
 use Rattle.valid_intervals.specs.Cells.{stored_at}
 use Rattle.plan_machine.specs.Plans.{Plan, shard_of, claim_of}
 use Rattle.plan_machine.specs.Alone.{plan_refusing}

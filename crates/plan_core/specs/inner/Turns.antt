@@ -1,11 +1,11 @@
 -- What a turn changes of the parts of a plan.
 use Rattle.std.specs.Prelude.{◌≡◌, ℕ, List, Option, Some, None, Result, Ok, Err}
-use Rattle.owned_text.specs.declared.OutOfMemory.{OutOfMemory}
+use Rattle.texts.specs.declared.OutOfMemory.{OutOfMemory}
 use Rattle.std.specs.Global.{Vec}
 use Rattle.valid_intervals.specs.declared.SignalCell.{SignalCell}
-use Rattle.batch_meaning.specs.Batches.{Batch}
-use Rattle.strand_meaning.specs.declared.Next.TheVariants.{Ask, Fill, Drop}
-use Rattle.strand_meaning.specs.Strands.{next}
+use Rattle.journal_meaning.specs.Batches.{Batch}
+use Rattle.plan_machine.specs.declared.strand.Next.TheVariants.{Ask, Fill, Drop}
+use Rattle.plan_machine.specs.Strands.{next}
 use Rattle.plan_machine.specs.Plans.{Plan}
 use Rattle.plan_machine.specs.declared.Turned.{Turned}
 use Rattle.plan_machine.specs.declared.Turned.TheVariants as comes

@@ -3,8 +3,8 @@ use Rattle.std.specs.Prelude.{◌≡◌, ℕ, ◌≤◌, ◌<◌, if◌then◌el
 use Rattle.std.specs.List.{AllByRecursion}
 use Rattle.valid_intervals.specs.declared.Point.{Point}
 use Rattle.valid_intervals.specs.Cells.{same_point}
-use Rattle.batch_meaning.specs.Batches.{shard_number}
-use Rattle.strand_meaning.specs.Strands.{Strand}
+use Rattle.journal_meaning.specs.Batches.{shard_number}
+use Rattle.plan_machine.specs.Strands.{Strand}
 use Rattle.plan_machine.specs.Shards.{Shard}
 use Rattle.plan_machine.specs.Plans.{Plan, no_shard}
 use Rattle.plan_machine.specs.inner.Parts.{NumberedStrand, AreParts, strands_from}

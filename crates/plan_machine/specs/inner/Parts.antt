@@ -1,9 +1,9 @@
 -- The parts in which a plan is kept: a list with a gap for each strand that waits, and the strands that wait at each point.
 use Rattle.std.specs.Prelude.{◌≡◌, ℕ, suc, nat_eq, false, if◌then◌else◌, ◌⊎◌, List, [], ◌∷◌, length, slice_get, slice_set, Option, Some, None}
 use Rattle.valid_intervals.specs.declared.Point.{Point}
-use Rattle.strand_meaning.specs.declared.Next.TheVariants.{Ask}
+use Rattle.plan_machine.specs.declared.strand.Next.TheVariants.{Ask}
 use Rattle.valid_intervals.specs.Cells.{same_point}
-use Rattle.strand_meaning.specs.Strands.{Strand, next, waiting}
+use Rattle.plan_machine.specs.Strands.{Strand, next, waiting}
 
 pub record NumberedStrand : Type 0 where
   pub number : ℕ

@@ -1,9 +1,9 @@
 -- Two places that texts are written to: a sink, and a created file.
 use Rattle.std.specs.Prelude.{◌≡◌, ℕ, ◌⊎◌, List, [], ◌∷◌, ◌++◌, length, codes}
-use Rattle.text_fields.specs.Spelling.{field}
+use Rattle.texts.specs.fields.Spelling.{field}
 use Rattle.journal_text.specs.Spelling.{line_feed}
 use Rattle.backsim_io.specs.Counts.{Grows}
-use Rattle.owned_text.specs.Made.{Made}
+use Rattle.texts.specs.Made.{Made}
 use Rattle.backsim_io.specs.FilesInMemory.{FileGrows}
 use Rattle.session_meaning.specs.Broken.{IsPrefix}
 use Rattle.session_loop.specs.Halting.{session_files}

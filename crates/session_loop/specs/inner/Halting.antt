@@ -1,6 +1,6 @@
 -- What only the proofs and the private functions of this crate speak of, beside `Halting`.
 use Rattle.std.specs.Prelude.{◌≡◌, ℕ, ◌+◌, List}
-use Rattle.owned_text.specs.Made.{Made}
+use Rattle.texts.specs.Made.{Made}
 use Rattle.backsim_io.specs.FilesInMemory.{SameMade}
 use Rattle.session_meaning.specs.Broken.{IsPrefix}
 use Rattle.session_loop.specs.declared.halt.JournalHalt.{JournalHalt}

@@ -1,6 +1,6 @@
 -- What the writing of replies and of the journal comes to, piece by piece.
 use Rattle.std.specs.Prelude.{◌≡◌, ℕ, List, ◌++◌, Result, Ok, Err}
-use Rattle.owned_text.specs.Made.{Made}
+use Rattle.texts.specs.Made.{Made}
 use Rattle.backsim_io.specs.Counts.{Grows}
 use Rattle.backsim_io.specs.FilesInMemory.{FileGrows}
 use Rattle.backsim_io.specs.State.{FilesState}

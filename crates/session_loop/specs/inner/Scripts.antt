@@ -1,7 +1,7 @@
 -- What a script comes to, for the proofs and the private functions of this crate.
 use Rattle.std.specs.Prelude.{◌≡◌, ℕ, ◌+◌, ◌<◌, ◌≤◌, ◌⊎◌, List, [], ◌++◌, length, Contains, Option, Some, Result, Ok, Err}
 use Rattle.std.specs.Io.KnownBytes.{Consumes, IsAtEnd}
-use Rattle.owned_text.specs.Made.{Made}
+use Rattle.texts.specs.Made.{Made}
 use Rattle.backsim_io.specs.State.{FilesState}
 use Rattle.cell_store.specs.Recency.{Contents}
 use Rattle.query_lines.specs.declared.unit.Unit.{Unit as ScriptUnit}

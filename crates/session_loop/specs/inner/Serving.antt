@@ -1,6 +1,6 @@
 -- What units come to, for the proofs and the private functions of this crate.
 use Rattle.std.specs.Prelude.{◌≡◌, ℕ, ◌+◌, List, [], ◌∷◌, ◌++◌, length, Result, Ok, Err}
-use Rattle.owned_text.specs.Made.{Made}
+use Rattle.texts.specs.Made.{Made}
 use Rattle.journal_meaning.specs.declared.Entry.{Entry}
 use Rattle.journal_text.specs.Spelling.{section_lines}
 use Rattle.journal_text.specs.declared.sections.SectionKind.TheVariants.{Held}

@@ -1,6 +1,6 @@
 -- What a unit tells: its reply, and then, in the journal, its section; or a dump, and then its reply.
 use Rattle.std.specs.Prelude.{◌≡◌, ℕ, ◌+◌, ◌⊎◌, List, [], ◌∷◌, ◌++◌, length, Result, Ok, Err, IfOk}
-use Rattle.owned_text.specs.Made.{Made}
+use Rattle.texts.specs.Made.{Made}
 use Rattle.journal_meaning.specs.declared.Entry.{Entry}
 use Rattle.journal_text.specs.Spelling.{section_lines}
 use Rattle.journal_text.specs.declared.sections.SectionKind.TheVariants.{Batch}

@@ -1,8 +1,8 @@
 -- What the reader knows between two lines.
 use Rattle.std.specs.Prelude.{◌≡◌, ℕ, List, Result, is_none, is_some, option_to_list}
 use Rattle.std.specs.List.{list_all, list_any, flat_map}
-use Rattle.line_faults.specs.declared.causes.LineFault.{LineFault}
-use Rattle.line_faults.specs.Reading.{TakesLine}
+use Rattle.texts.specs.declared.line_faults.causes.LineFault.{LineFault}
+use Rattle.texts.specs.line_faults.Reading.{TakesLine}
 use Rattle.stimulus_file.specs.declared.StimulusCause.{StimulusCause}
 use Rattle.stimulus_file.specs.declared.StimulusCause.TheVariants.{OutOfMemory}
 use Rattle.stimulus_file.specs.declared.form.Form.{Form}

@@ -1,8 +1,8 @@
 -- What the reader knows between two lines.
 use Rattle.std.specs.Prelude.{◌≡◌, ℕ, ◌+◌, Bool, ◌||◌, List, [], ◌∷◌, ◌++◌, length, Option, Some, Result, ◌⊎◌}
 use Rattle.std.specs.List.{list_all, list_any}
-use Rattle.line_faults.specs.declared.causes.LineFault.{LineFault}
-use Rattle.line_faults.specs.Reading.{Steps, TakesLine}
+use Rattle.texts.specs.declared.line_faults.causes.LineFault.{LineFault}
+use Rattle.texts.specs.line_faults.Reading.{Steps, TakesLine}
 use Rattle.timing_file.specs.declared.TimingCause.{TimingCause}
 use Rattle.timing_file.specs.declared.TimingCause.TheVariants.{OutOfMemory}
 use Rattle.timing_file.specs.declared.statement.Subject.{Subject}

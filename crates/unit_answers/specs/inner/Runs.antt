@@ -4,16 +4,16 @@ use Rattle.std.specs.List.{AllByRecursion}
 use Rattle.valid_intervals.specs.declared.SignalCell.{SignalCell}
 use Rattle.cell_store.specs.Recency.{Contents, contents}
 use Rattle.journal_meaning.specs.declared.Entry.{Entry}
-use Rattle.batch_meaning.specs.declared.Query.{Query}
-use Rattle.batch_meaning.specs.Batches.{Batch, Site}
-use Rattle.batch_meaning.specs.Lawful.{IsLawful}
+use Rattle.journal_meaning.specs.declared.batch.Query.{Query}
+use Rattle.journal_meaning.specs.Batches.{Batch, Site}
+use Rattle.journal_meaning.specs.Lawful.{IsLawful}
 use Rattle.journal_meaning.specs.Allowed.{IsRight}
 use Rattle.plan_machine.specs.Shards.{Shard}
 use Rattle.plan_machine.specs.Settle.{AreSettled, journals_of}
 use Rattle.circuit_meaning.specs.declared.Run.{Run}
 use Rattle.reply_lines.specs.declared.reply.Outcome.{Outcome}
 use Rattle.memo_shards.specs.KeptShards.{KeptShard}
-use Rattle.window_answers.specs.Phases.{AreOutcomes, refused_of}
+use Rattle.query_answers.specs.windows.Phases.{AreOutcomes, refused_of}
 use Rattle.session_meaning.specs.Session.{Setup}
 use Rattle.plan_core.specs.Parts.{AreInOrder}
 use Rattle.unit_answers.specs.Stores.{cells_of}

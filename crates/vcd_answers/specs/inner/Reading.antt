@@ -3,9 +3,9 @@ use Rattle.std.specs.Prelude.{ℕ, zero, suc, ◌-◌, ◌==◌, ◌&&◌, Bool,
 use Rattle.std.specs.Option.{option_map}
 use Rattle.gate_values.specs.Spelling.{value_of_byte}
 use Rattle.circuit_meaning.specs.declared.Run.{Run}
-use Rattle.text_rules.specs.declared.Amount.{Amount}
-use Rattle.text_rules.specs.declared.Amount.TheVariants.{Within}
-use Rattle.text_rules.specs.Text.{amount}
+use Rattle.texts.specs.declared.Amount.{Amount}
+use Rattle.texts.specs.declared.Amount.TheVariants.{Within}
+use Rattle.texts.specs.Text.{amount}
 use Rattle.vcd_answers.specs.declared.reading.Line.{Line}
 use Rattle.vcd_answers.specs.declared.reading.Line.TheVariants.{Time, Change}
 use Rattle.vcd_answers.specs.Wires.{Wire}

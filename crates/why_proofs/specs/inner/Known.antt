@@ -5,8 +5,8 @@ use Rattle.valid_intervals.specs.declared.Point.{Point}
 use Rattle.valid_intervals.specs.declared.SignalCell.{SignalCell}
 use Rattle.circuit_meaning.specs.Circuit.{Circuit, driver}
 use Rattle.circuit_meaning.specs.Cells.{cell_at}
-use Rattle.pin_walks.specs.declared.walk.PinWalk.{PinWalk}
-use Rattle.pin_walks.specs.PinWalks.{looked_at, next_point}
+use Rattle.design.specs.declared.pin_walk.PinWalk.{PinWalk}
+use Rattle.design.specs.PinWalks.{looked_at, next_point}
 use Rattle.why_proofs.specs.Justified.{Answers, AreAnswered, IsJustified}
 
 -- where a line's cell stands

@@ -2,8 +2,8 @@
 use Rattle.std.specs.Prelude.{ℕ, Bool, ◌==◌, List, [], ◌∷◌, take, drop, position, codes, Option, Some, None, if◌then◌else◌}
 use Rattle.std.specs.Borrow.{Bor}
 use Rattle.gate_values.specs.declared.Value.{Value}
-use Rattle.text_fields.specs.Reading.{◌>>=◌, after_word, field_at, items_at, value_at}
-use Rattle.text_rules.specs.Text.{is_name}
+use Rattle.texts.specs.fields.Reading.{◌>>=◌, after_word, field_at, items_at, value_at}
+use Rattle.texts.specs.Text.{is_name}
 use Rattle.valid_intervals.specs.declared.SignalCell.{SignalCell}
 use Rattle.valid_intervals.specs.Spans.{from_to}
 

@@ -1,4 +1,4 @@
-use Rattle.text_rules.specs.Text.{line_tokens}
+use Rattle.texts.specs.Text.{line_tokens}
 use Rattle.bench_reader.specs.Lines.{pin_list}
 use Rattle.bench_reader.proofs.Forms.{list_begun, list_longer}
 use Rattle.bench_reader.proofs.form.read_list.Goals as goal

@@ -1,5 +1,5 @@
 use Rattle.std.proofs.Common.{◌≡◌, length}
-use Rattle.text_rules.specs.Text.{line_tokens}
+use Rattle.texts.specs.Text.{line_tokens}
 use Rattle.bench_reader.specs.Lines.{pin_list}
 use Rattle.bench_reader.specs.Views.{each_now}
 use Rattle.bench_reader.proofs.Forms.{behind}

@@ -1,5 +1,5 @@
 use Rattle.std.proofs.Common.{◌-◌, length}
-use Rattle.pin_walks.specs.PinWalks.{looked_at}
+use Rattle.design.specs.PinWalks.{looked_at}
 use Rattle.demand_points.specs.inner.Bases.{HearsBases}
 use Rattle.demand_points.proofs.bases.hear_bases.Given as goal
 

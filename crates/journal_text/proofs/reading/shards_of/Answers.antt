@@ -1,7 +1,7 @@
 use Rattle.std.proofs.Common.{rules, ◌≡◌, ◌-◌, ◌+◌, suc, ◌++◌, ◌∷◌, [], List, None, Some, ◌∙◌, ap, sym, arith}
 use Rattle.std.specs.Prelude.{codes}
 use Rattle.journal_meaning.specs.declared.Entry.{Entry}
-use Rattle.text_fields.specs.Reading.{after_word}
+use Rattle.texts.specs.fields.Reading.{after_word}
 use Rattle.journal_text.specs.inner.Reading.{shard_at, shards_at}
 use Rattle.journal_text.proofs.Shards.{shard_read, put_shards, put_shard, put_none, put_end, put_most}
 use Rattle.journal_text.proofs.reading.shards_of.Goals.{else-loop-number-test, then-loop-number-test+in_default}

@@ -1,6 +1,6 @@
 use Rattle.std.proofs.Common.{◌≡◌, List, length, sym, subst}
 use Rattle.std.specs.List.{AllZip, refill}
-use Rattle.strand_meaning.specs.Strands.{after_answer}
+use Rattle.plan_machine.specs.Strands.{after_answer}
 use Rattle.demand_points.specs.Demands.{Demand, TakesStep}
 use Rattle.memo_shards.proofs.Hearing.{all-done, refill-same}
 use Rattle.memo_shards.proofs.wake.hear_all.Goals as goal

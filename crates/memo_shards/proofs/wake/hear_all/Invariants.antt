@@ -1,4 +1,4 @@
-use Rattle.strand_meaning.specs.Strands.{after_answer}
+use Rattle.plan_machine.specs.Strands.{after_answer}
 use Rattle.demand_points.specs.Demands.{TakesStep}
 use Rattle.memo_shards.proofs.Hearing.{IsUpTo}
 use Rattle.memo_shards.proofs.wake.hear_all.Given as goal

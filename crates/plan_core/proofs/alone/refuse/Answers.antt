@@ -1,5 +1,5 @@
 use Rattle.std.proofs.Common.{◌≡◌, ◌∙◌, length, sym, refl, true≢false, ◌%◌, ap}
-use Rattle.batch_meaning.specs.Batches.{shard_number}
+use Rattle.journal_meaning.specs.Batches.{shard_number}
 use Rattle.plan_core.specs.inner.Parts.{plan_at}
 use Rattle.plan_core.proofs.Refusing.{refused-spent, refused-asks, refused-here, refused-open, refused-end}
 use Rattle.plan_core.proofs.Resting.{unplaced-waits}

@@ -1,6 +1,6 @@
 use Rattle.std.proofs.Common.{List, ap, subst, ◌∙◌, Option, Some, None}
 use Rattle.std.proofs.lemmas.Result.{err_from_is_err_and}
-use Rattle.batch_meaning.specs.Batches.{shard_number}
+use Rattle.journal_meaning.specs.Batches.{shard_number}
 use Rattle.demand_points.specs.Demands.{Demand}
 use Rattle.plan_core.specs.inner.Places.{IsNextAt}
 use Rattle.plan_core.proofs.Resting.{gap-rests, end-rests}

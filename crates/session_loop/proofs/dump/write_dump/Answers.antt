@@ -1,5 +1,5 @@
 use Rattle.std.proofs.Common.{◌∷◌, [], refl, sym, ap, subst, inr, ◌∙◌}
-use Rattle.owned_text.specs.Made.{Made}
+use Rattle.texts.specs.Made.{Made}
 use Rattle.session_meaning.proofs.Journals.{prefix-same}
 use Rattle.backsim_io.specs.State.{FileFault, WriteFault}
 use Rattle.session_loop.proofs.Growing.{file-part-of}

@@ -1,7 +1,7 @@
 use Rattle.std.proofs.Common.{◌≡◌, ℕ, List, flat_map, sum, sum_by, sym, subst, ◌∙◌}
 use Rattle.valid_intervals.specs.declared.SignalCell.{SignalCell}
-use Rattle.batch_meaning.specs.Batches.{Batch}
-use Rattle.batch_meaning.specs.Pieces.{pieces}
+use Rattle.journal_meaning.specs.Batches.{Batch}
+use Rattle.journal_meaning.specs.Pieces.{pieces}
 use Rattle.unit_answers.specs.Stores.{cells_of}
 use Rattle.unit_answers.specs.inner.Runs.{HasRun}
 use Rattle.unit_answers.proofs.Crewing.{has-crewed}
@@ -9,7 +9,7 @@ use Rattle.plan_machine.specs.Settle.{entries_in}
 use Rattle.memo_shards.specs.KeptShards.{KeptShard}
 use Rattle.plan_core.specs.InTurn.{AllChildrenCovered, booked_by}
 use Rattle.plan_core.specs.Parts.{shards_in, strands_in, AreInOrder}
-use Rattle.asked_cells.proofs.Alone.{numbered}
+use Rattle.plan_core.proofs.RunsAlone.{numbered}
 use Rattle.unit_answers.proofs.Running.{strands-new, strands-started, settled-free, has-run}
 use Rattle.unit_answers.proofs.run.run_batch.Goals as goal
 

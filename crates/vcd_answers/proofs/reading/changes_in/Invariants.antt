@@ -1,6 +1,6 @@
 -- The lines that are left go on with the wires so far.
 use Rattle.std.proofs.Common.{◌≡◌, length}
-use Rattle.text_rules.specs.Text.{lines}
+use Rattle.texts.specs.Text.{lines}
 use Rattle.vcd_answers.specs.inner.Reading.{with_changes}
 use Rattle.vcd_answers.proofs.reading.changes_in.Given as goal
 

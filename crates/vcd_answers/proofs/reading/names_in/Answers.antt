@@ -1,5 +1,5 @@
 use Rattle.std.proofs.Common.{rules, ◌≡◌, ◌∙◌, sym, ap, List}
-use Rattle.text_rules.specs.Text.{lines}
+use Rattle.texts.specs.Text.{lines}
 use Rattle.vcd_answers.specs.Wires.{Wire}
 use Rattle.vcd_answers.specs.inner.Reading.{with_names}
 use Rattle.vcd_answers.proofs.ReadBack.{names_end, names_other}

@@ -1,6 +1,6 @@
 -- The lines that are left come after the wires so far.
 use Rattle.std.proofs.Common.{◌≡◌, [], length}
-use Rattle.text_rules.specs.Text.{lines}
+use Rattle.texts.specs.Text.{lines}
 use Rattle.vcd_answers.specs.inner.Reading.{with_names}
 use Rattle.vcd_answers.proofs.reading.names_in.Given as goal
 

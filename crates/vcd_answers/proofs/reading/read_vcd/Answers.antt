@@ -1,5 +1,5 @@
 use Rattle.std.proofs.Common.{rules, ◌≡◌, ◌∙◌, sym, ap, subst, Some}
-use Rattle.text_rules.specs.Text.{lines}
+use Rattle.texts.specs.Text.{lines}
 use Rattle.vcd_answers.specs.Wires.{AreWires}
 use Rattle.vcd_answers.specs.Dumps.{vcd_of}
 use Rattle.vcd_answers.specs.inner.Reading.{read_of}

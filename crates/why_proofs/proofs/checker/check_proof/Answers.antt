@@ -1,6 +1,6 @@
 use Rattle.std.proofs.Common.{rules, arith, ◌≡◌, ◌<◌, ◌≤◌, length, Some, None}
 use Rattle.std.specs.Prelude.{codes}
-use Rattle.text_fields.specs.Reading.{after_word}
+use Rattle.texts.specs.fields.Reading.{after_word}
 use Rattle.why_proofs.specs.inner.Reading.{Claim, claim_at, cells_at}
 use Rattle.why_proofs.proofs.Breaks.{no-claim}
 use Rattle.why_proofs.proofs.Checking.{read-claim, read-cells, few, broken-end, broken-behind, whole, yes-answer, no-answer, true-answer}

@@ -1,7 +1,7 @@
 use Rattle.std.proofs.Common.{◌≡◌, ◌++◌, ◌∷◌, [], List, sym, subst, ◌∙◌, rules, map-id}
 use Rattle.std.proofs.lemmas.Iterator.Consumers.{YieldsList-end}
 use Rattle.std.proofs.lemmas.Iterator.Adapters.{YieldsList-from_vec}
-use Rattle.asked_cells.specs.declared.fill_counts.FillCounts.{FillCounts}
+use Rattle.plan_core.specs.declared.asked.fill_counts.FillCounts.{FillCounts}
 use Rattle.worker_gate.specs.Said.{AreJoined}
 use Rattle.worker_gate.proofs.Joined.{none-joined, more-joined}
 use Rattle.worker_gate.proofs.hearing.joined.Goals as goal

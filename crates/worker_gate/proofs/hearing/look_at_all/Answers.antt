@@ -1,7 +1,7 @@
 use Rattle.std.proofs.Common.{◌≡◌, ◌<◌, ◌%◌, All, Bool, true, false, get_or, subst, arith, refl}
 use Rattle.std.proofs.lemmas.Nat.{mod_below}
 use Rattle.std.proofs.lemmas.Option.{slice_get_within}
-use Rattle.asked_cells.specs.Memos.{entries_of}
+use Rattle.plan_core.specs.asked.Memos.{entries_of}
 use Rattle.worker_gate.proofs.Heard.{fills-heard}
 use Rattle.plan_core.proofs.InTurn.{lawful-known}
 use Rattle.worker_gate.proofs.hearing.look_at_all.Goals as goal

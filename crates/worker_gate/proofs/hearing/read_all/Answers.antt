@@ -2,8 +2,8 @@ use Rattle.std.proofs.Common.{◌≡◌, ◌+◌, ◌<◌, ◌/◌, ◌%◌, Lis
 use Rattle.std.proofs.lemmas.List.{length-map, get_or-map}
 use Rattle.std.proofs.lemmas.Result.{IfOk-weaker}
 use Rattle.memo_shards.specs.KeptShards.{KeptShard}
-use Rattle.asked_cells.specs.FillCounts.{HaveCounted}
-use Rattle.asked_cells.specs.Memos.{entries_of}
+use Rattle.plan_core.specs.asked.FillCounts.{HaveCounted}
+use Rattle.plan_core.specs.asked.Memos.{entries_of}
 use Rattle.worker_gate.specs.Said.{AreJoined}
 use Rattle.worker_gate.proofs.Joined.{chunks-cover, chunks-counted}
 use Rattle.worker_gate.proofs.hearing.read_all.Goals as goal

@@ -1,5 +1,5 @@
 use Rattle.std.proofs.Common.{◌≡◌, ◌<◌, ◌%◌, ℕ}
-use Rattle.asked_cells.specs.Heard.{HasHeard}
+use Rattle.plan_core.specs.asked.Heard.{HasHeard}
 use Rattle.worker_gate.proofs.hearing.share_has_heard.Given as goal
 
 abbrev pub invariant-loop-k : goal.invariant-loop-k

@@ -5,8 +5,8 @@ use Rattle.plan_core.specs.Parts.{AreInOrder}
 use Rattle.worker_gate.specs.Ends.{AreCounted, AreEnds}
 use Rattle.memo_shards.specs.KeptShards.{KeptShard}
 use Rattle.plan_core.specs.InTurn.{AllChildrenCovered}
-use Rattle.asked_cells.specs.FillCounts.{HaveCounted}
-use Rattle.asked_cells.specs.Memos.{entries_of}
+use Rattle.plan_core.specs.asked.FillCounts.{HaveCounted}
+use Rattle.plan_core.specs.asked.Memos.{entries_of}
 use Rattle.worker_gate.proofs.Places.{ended_counted}
 use Rattle.worker_gate.proofs.run.run_workers.Goals as goal
 

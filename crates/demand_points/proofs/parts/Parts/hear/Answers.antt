@@ -1,5 +1,5 @@
 use Rattle.std.proofs.Common.{ℕ, Some, sym, subst}
-use Rattle.strand_meaning.specs.Strands.{after_answer}
+use Rattle.plan_machine.specs.Strands.{after_answer}
 use Rattle.demand_points.specs.declared.parts.Parts.{Parts}
 use Rattle.demand_points.specs.inner.Demands.{TakesStepTo}
 use Rattle.demand_points.proofs.PartLemmas.{asked, hears-root}

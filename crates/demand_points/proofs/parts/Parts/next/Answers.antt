@@ -1,5 +1,5 @@
 use Rattle.std.proofs.Common.{ap, sym, ◌∙◌}
-use Rattle.strand_meaning.specs.declared.Next.TheVariants.{Ask}
+use Rattle.plan_machine.specs.declared.strand.Next.TheVariants.{Ask}
 use Rattle.demand_points.proofs.PartLemmas.{next-root, next-end, ready-root}
 use Rattle.demand_points.proofs.parts.Parts.next.Goals as goal
 

@@ -1,6 +1,6 @@
 use Rattle.std.proofs.Common.{◌+◌, List, sym, subst, refl}
-use Rattle.strand_meaning.specs.Strands.{after_claim}
-use Rattle.pin_walks.specs.declared.walk.PinWalk.{PinWalk}
+use Rattle.plan_machine.specs.Strands.{after_claim}
+use Rattle.design.specs.declared.pin_walk.PinWalk.{PinWalk}
 use Rattle.demand_points.specs.declared.parts.Parts.{Parts}
 use Rattle.demand_points.specs.inner.Demands.{TakesStepTo}
 use Rattle.demand_points.proofs.PartLemmas.{asked, asked-point, claims}

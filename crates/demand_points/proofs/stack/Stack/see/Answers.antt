@@ -1,6 +1,6 @@
 use Rattle.std.proofs.Common.{◌<◌, refl, ap, sym, subst, ◌∙◌}
 use Rattle.std.proofs.lemmas.Bool.{false≢true}
-use Rattle.pin_walks.specs.PinWalks.{LooksOn}
+use Rattle.design.specs.PinWalks.{LooksOn}
 use Rattle.demand_points.specs.inner.Stacks.{IsTop, ChangesTop, with_top}
 use Rattle.demand_points.proofs.Tops.{top-written, top-read, top-changed, none-there, none-changed}
 use Rattle.demand_points.proofs.stack.Stack.see.Goals as goal

@@ -1,7 +1,7 @@
 use Rattle.std.proofs.Common.{◌≡◌, ◌<◌, sym, subst}
 use Rattle.std.proofs.lemmas.Bool.{false≢true}
-use Rattle.strand_meaning.specs.declared.Next.TheVariants.{Ask}
-use Rattle.strand_meaning.specs.Strands.{next}
+use Rattle.plan_machine.specs.declared.strand.Next.TheVariants.{Ask}
+use Rattle.plan_machine.specs.Strands.{next}
 use Rattle.demand_points.specs.Demands.{Demand}
 use Rattle.demand_points.specs.inner.Demands.{strand_of}
 use Rattle.demand_points.proofs.Keeps.{claimed-demand}

@@ -5,7 +5,7 @@ use Rattle.valid_intervals.specs.Cells.{cell_for, point_cmp}
 use Rattle.cell_store.specs.Recency.{pushes_out, last_key, after_put}
 use Rattle.journal_meaning.specs.States.{holder}
 use Rattle.circuit_meaning.specs.Cells.{cell_at}
-use Rattle.batch_meaning.specs.declared.Query.{Query}
+use Rattle.journal_meaning.specs.declared.batch.Query.{Query}
 use Rattle.journal_meaning.specs.declared.Entry.{Entry}
 use Rattle.journal_meaning.specs.declared.Entry.TheVariants as entry
 use Rattle.plan_machine.specs.Shards.{filled_shard}

@@ -1,5 +1,5 @@
 use Rattle.std.proofs.Common.{◌≡◌, List, slice_get, subst, sym, ap, ◌∙◌, Option, Some}
-use Rattle.strand_meaning.specs.Strands.{next}
+use Rattle.plan_machine.specs.Strands.{next}
 use Rattle.demand_points.specs.Demands.{Demand}
 use Rattle.plan_core.proofs.Resting.{awake-placed}
 use Rattle.plan_core.proofs.plan.Plan.asked.Goals as goal

@@ -1,5 +1,5 @@
 use Rattle.std.proofs.Common.{◌≡◌, length}
-use Rattle.batch_meaning.specs.Pieces.{Start}
+use Rattle.journal_meaning.specs.Pieces.{Start}
 use Rattle.plan_machine.specs.Bounds.{all_left}
 use Rattle.plan_machine.specs.Laws.{BeginsAlone}
 use Rattle.plan_machine.specs.Alone.{RunsAlone}

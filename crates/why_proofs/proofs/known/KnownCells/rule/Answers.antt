@@ -2,7 +2,7 @@ use Rattle.std.proofs.Common.{rules, ◌≡◌, ◌<◌, length, sym, ◌∙◌,
 use Rattle.std.specs.BTreeMap.{get}
 use Rattle.valid_intervals.specs.Cells.{point_cmp}
 use Rattle.why_proofs.specs.Justified.{answer}
-use Rattle.pin_walks.specs.PinWalks.{looked_at}
+use Rattle.design.specs.PinWalks.{looked_at}
 use Rattle.why_proofs.proofs.Sound.{answer-right}
 use Rattle.why_proofs.proofs.Sources.{ruled, unruled}
 use Rattle.why_proofs.proofs.KnownLemmas.{index-right}

@@ -1,6 +1,6 @@
 use Rattle.std.proofs.Common.{◌≡◌}
-use Rattle.strand_meaning.specs.Strands.{next}
-use Rattle.strand_meaning.specs.declared.Next.TheVariants.{Done}
+use Rattle.plan_machine.specs.Strands.{next}
+use Rattle.plan_machine.specs.declared.strand.Next.TheVariants.{Done}
 use Rattle.worker_gate.proofs.worker.Shared.put.Given as goal
 
 abbrev pub invariant-loop : goal.invariant-loop

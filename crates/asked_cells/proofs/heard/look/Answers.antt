@@ -1,7 +1,0 @@
-use Rattle.std.proofs.Common.{subst}
-use Rattle.circuit_meaning.specs.Circuit.{Circuit}
-use Rattle.pin_walks.specs.PinWalks.{IsPoint}
-use Rattle.asked_cells.proofs.heard.look.Goals as goal
-
-pub said_cell-requires-clause-point : goal.said_cell-requires-clause-point
-said_cell-requires-clause-point g c = subst (λ (z : Circuit). IsPoint z c.in-Some.x) c.requires.design (c.in-Some.ensures.point c.args.design.now.circuit c.requires.walk)

@@ -1,5 +1,0 @@
-use Rattle.asked_cells.proofs.Chains.{IsDoubled}
-use Rattle.asked_cells.proofs.places.chains_for.Given as goal
-
-abbrev pub invariant-loop-step : goal.invariant-loop-step
-invariant-loop-step l = IsDoubled l.entries l._step l.chains

@@ -1,8 +1,0 @@
-use Rattle.std.proofs.Common.{◌≡◌, ◌<◌, ◌≤◌, ℕ, true, get_or}
-use Rattle.batch_meaning.specs.declared.Query.{Query}
-use Rattle.valid_intervals.specs.declared.Point.{Point}
-use Rattle.asked_cells.specs.Wanted.{is_wanted}
-use Rattle.asked_cells.proofs.wanted.Wanted.windows.Given as goal
-
-abbrev pub invariant-loop-q : goal.invariant-loop-q
-invariant-loop-q l = (i : ℕ) (d : Query) (p : Point) → i < l.q-index → p.signal ≡ (get_or l.queries i d).signal → (get_or l.queries i d).from ≤ p.time → p.time < (get_or l.queries i d).to → is_wanted l.wanted p ≡ true

@@ -1,4 +1,0 @@
-pub mod Batches
-pub mod Lawful
-pub mod Pieces
-pub mod inner

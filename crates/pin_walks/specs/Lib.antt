@@ -1,2 +1,0 @@
-pub mod PinWalks
-pub mod inner

@@ -1,0 +1,95 @@
+-- The one query of a batch, for one time: what it needs, and its answer.
+use Rattle.std.proofs.Common.{◌≡◌, ℕ, ◌+◌, ◌<◌, ◌≤◌, Bool, true, List, [], ◌∷◌, length, Contains, Option, Some, None, refl, sym, ap, subst, ◌∙◌, arith}
+use Rattle.std.proofs.lemmas.List.Elements.{All-contains}
+use Rattle.valid_intervals.specs.declared.Cell.{Cell}
+use Rattle.valid_intervals.specs.declared.Point.{Point}
+use Rattle.valid_intervals.specs.declared.SignalCell.{SignalCell}
+use Rattle.circuit_meaning.specs.Cells.{cell_at, point_at}
+use Rattle.circuit_meaning.specs.Need.{IsEvaluable, Root, First}
+use Rattle.journal_meaning.specs.declared.Entry.{Entry}
+use Rattle.journal_meaning.specs.Answers.{IsCovered, IsClosed}
+use Rattle.journal_meaning.specs.Grown.{AreAdded}
+use Rattle.journal_meaning.proofs.Grown.{grows-none}
+use Rattle.journal_meaning.specs.declared.batch.Query.{Query}
+use Rattle.journal_meaning.specs.Batches.{Batch, Site, IsNeededBy, NeedOf}
+use Rattle.journal_meaning.specs.Lawful.{IsLawful}
+use Rattle.session_meaning.specs.Explanations.{Explains, IsExplained}
+use Rattle.session_meaning.specs.declared.Verdict.TheVariants.{Ask}
+use Rattle.reply_lines.specs.declared.reply.Outcome.TheVariants.{Budget}
+use Rattle.plan_machine.specs.Shards.{Shard}
+use Rattle.plan_machine.specs.Settle.{journals_of}
+use Rattle.plan_machine.specs.inner.Settle.{IsOpen, IsStanding, Advances, Reaches}
+use Rattle.plan_machine.proofs.Settle.{begins-query, settles-closed}
+use Rattle.plan_machine.proofs.Underway.{contains-none}
+use Rattle.memo_shards.specs.KeptShards.{KeptShard}
+use Rattle.plan_core.specs.Parts.{shards_in}
+use Rattle.design.specs.PinWalks.{IsPoint}
+use Rattle.plan_core.specs.asked.Memos.{AreFreeShards, entries_of, is_missing}
+use Rattle.plan_core.specs.asked.inner.Standings.{live, standing}
+use Rattle.query_answers.specs.explanations.inner.Gathered.{AreExplained}
+
+module _ (b : Batch) (lawful : IsLawful b) (opening : ℕ → List SignalCell) (q : Query) (queries : b.queries ≡ q ∷ []) (window : q.to ≡ q.from + 1) where
+  abbrev root : Point
+  root = point_at q.signal q.from
+
+  pub known : Contains b.queries q
+  known = subst (λ (qs : List Query). Contains qs q) (sym queries) (0, omega arith, refl)
+
+  within : q.to ≤ b.circuit.horizon + 1
+  within = All-contains (λ (r : Query). r.to ≤ b.circuit.horizon + 1) b.queries q lawful.windows known
+
+  -- its point is one of the circuit
+  pub root-point : IsPoint b.circuit root
+  root-point = record {
+    signal = All-contains (λ (r : Query). r.signal < length b.circuit.drivers) b.queries q lawful.signals known;
+    time = (let l = within in omega arith);
+  }
+
+  -- and it needs it
+  pub root-needed : b.site ≡ None → IsEvaluable b.circuit q.signal q.from → IsNeededBy b q root
+  root-needed site e = subst (λ (s : Option Site). NeedOf b.circuit s q root) (sym site) (Root (First (omega arith)) e)
+
+  -- nothing is recorded yet
+  pub begins-standing : (ms : List KeptShard) → AreFreeShards b opening ms → entries_of ms ≡ [] → IsStanding b opening q [] (shards_in ms) (live ms)
+  begins-standing ms kept unused =
+      begins-query b opening q [] (shards_in ms) kept.fresh (subst (IsOpen b.circuit q []) (sym unused) (record {
+        added = [];
+        grows = grows-none [];
+        fed = λ p x h. absurd (contains-none _ [] refl h);
+        refusals = refl;
+      }))
+
+  -- its point was asked for
+  pub record IsHeard (first : List Shard) (heard : List KeptShard) : Type 0 where
+    pub stands : IsStanding b opening q [] first (live heard)
+    pub covered : IsCovered b.circuit (entries_of heard) root
+
+  pub is-heard : (first : List Shard) (old heard : List KeptShard) (o : Option Cell) (cell : Cell) → o ≡ Some cell → Reaches b opening q [] first (live old) root (standing heard (is_missing o)) → IsHeard first heard
+  is-heard first old heard o cell e r =
+      let k = subst (λ o. Reaches b opening q [] first (live old) root (standing heard (is_missing o))) e r in
+      record { stands = k.0.stands; covered = k.1 refl }
+
+  -- the query is closed once its point is covered
+  closed : (first : List Shard) (now : List KeptShard) → IsStanding b opening q [] first (live now) → IsCovered b.circuit (entries_of now) root → IsClosed b.circuit (entries_of now) q
+  closed first now s covered =
+      (settles-closed b lawful q within [] (entries_of now) s.state (λ p y m. absurd (contains-none _ [] refl m)) q.to
+      (λ t since before. let same : q.from ≡ t = omega arith in subst (λ u. IsCovered b.circuit (entries_of now) (record { signal = q.signal; time = u })) same covered) (omega arith)).0
+
+  -- the lines are an explanation
+  pub answers-proof : (first : List Shard) (heard now : List KeptShard) (cell : Cell) (lines : List SignalCell) → cell ≡ cell_at b.circuit root → IsCovered b.circuit (entries_of heard) root → Advances b opening q [] first (live heard) (live now) → AreExplained b.circuit (entries_of now) q lines
+      → Explains b.circuit (entries_of now) q lines cell.value
+  answers-proof first heard now cell lines right covered a e = record {
+    justified = e.justified;
+    follows = e.follows ∙ ap (λ (x : Cell). Some x.value) (sym right);
+    ordered = e.ordered;
+    told = e.told;
+    closed = closed first now a.stands (a.kept root covered);
+  }
+
+  -- the query was refused
+  pub answers-budget : (first : List Shard) (now : List KeptShard) → IsStanding b opening q [] first (standing now true) → IsExplained b.circuit (entries_of now) (Ask q) (Budget q.budget)
+  answers-budget first now s = (refl, s.state.0)
+
+  -- the journals grew
+  pub journals-grown : (first : List Shard) (now : List KeptShard) (r : Bool) → IsStanding b opening q [] first (standing now r) → (added : List Entry) × AreAdded (journals_of first) added (journals_of (shards_in now))
+  journals-grown first now r s = (s.added, s.journals)

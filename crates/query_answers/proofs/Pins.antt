@@ -1,0 +1,49 @@
+-- The pins of a filled point, one after another.
+use Rattle.std.proofs.Common.{◌≡◌, ℕ, ◌≤◌, List, get_or, Contains, Option, Some, None, refl, sym, subst}
+use Rattle.valid_intervals.specs.declared.Point.{Point}
+use Rattle.circuit_meaning.specs.Circuit.{Circuit}
+use Rattle.circuit_meaning.specs.Need.{IsEvaluable, children}
+use Rattle.circuit_meaning.proofs.Looking.{children-somes}
+use Rattle.journal_meaning.specs.declared.Entry.{Entry}
+use Rattle.journal_meaning.specs.declared.batch.Query.{Query}
+use Rattle.journal_meaning.specs.Answers.{IsCovered}
+use Rattle.journal_meaning.specs.Batches.{Batch, IsNeededBy, NeedOf, window_of}
+use Rattle.journal_meaning.specs.Lawful.{IsLawful}
+use Rattle.journal_meaning.specs.Pieces.{IsStart}
+use Rattle.plan_machine.specs.inner.Settle.{IsAskedFor}
+use Rattle.plan_machine.specs.Settle.{child_start, root_start, charge_of}
+use Rattle.plan_machine.proofs.Steps.{wanted-time}
+use Rattle.plan_machine.proofs.Settle.{evaluable-signal, child-start, child-needed, child-asked, root-asked}
+use Rattle.design.specs.PinWalks.{IsPoint, looked_at}
+use Rattle.plan_core.specs.asked.inner.Sources.{IsSourceCovered}
+use Rattle.plan_core.proofs.Pins.{somes-has, needed-evaluable}
+
+-- a pin that is looked at reads a child
+pub source-child : (c : Circuit) (p x : Point) (n : ℕ) → get_or (looked_at c p) n None ≡ Some x → Contains (children c p.signal p.time) x
+source-child c p x n e = subst (λ l. Contains l x) (sym (children-somes c p.signal p.time)) (somes-has (looked_at c p) n x e)
+
+-- a source stays covered
+pub source-kept : (c : Circuit) (es fs : List Entry) → ((x : Point) → IsCovered c es x → IsCovered c fs x) → (o : Option Point) → IsSourceCovered c es o → IsSourceCovered c fs o
+source-kept c es fs f None h = tt
+source-kept c es fs f (Some x) h = f x h
+
+module _ (b : Batch) (lawful : IsLawful b) (q : Query) (known : Contains b.queries q) (p : Point) (need : IsNeededBy b q p) where
+  -- a needed point has no base answer, where no signal is held
+  pub needed-has : b.site ≡ None → IsEvaluable b.circuit p.signal p.time
+  needed-has site = needed-evaluable b.circuit (window_of q) p.signal p.time (subst (λ s. NeedOf b.circuit s q p) site need)
+
+  -- it is a point of the circuit
+  pub needed-point : b.site ≡ None → IsPoint b.circuit p
+  needed-point site = record { signal = evaluable-signal p.time b.circuit.drivers p.signal (needed-has site); time = wanted-time b lawful q.number p (q, known, refl, need) }
+
+  -- a strand may start with the source of its pin
+  pub source-start : (x : Point) (n : ℕ) → get_or (looked_at b.circuit p) n None ≡ Some x → (charge : ℕ) → charge ≤ q.budget → IsEvaluable b.circuit x.signal x.time → IsStart b (child_start q x charge)
+  source-start x n e charge low evaluable = child-start b lawful q known x (child-needed b lawful q p x need (source-child b.circuit p x n e) evaluable) evaluable charge low
+
+-- a child is asked for with what the query is charged
+pub child-asks : (q : Query) (es : List Entry) (x : Point) (charge : ℕ) → charge ≡ charge_of es q → IsAskedFor q es x (child_start q x charge)
+child-asks q es x charge e = subst (λ n. IsAskedFor q es x (child_start q x n)) (sym e) (child-asked q es x)
+
+-- and so is a root
+pub root-asks : (q : Query) (es : List Entry) (t charge : ℕ) → charge ≡ charge_of es q → IsAskedFor q es (record { signal = q.signal; time = t }) (root_start q t charge)
+root-asks q es t charge e = subst (λ n. IsAskedFor q es (record { signal = q.signal; time = t }) (root_start q t n)) (sym e) (root-asked q es t)

@@ -1,0 +1,3 @@
+pub mod windows
+pub mod explanations
+pub mod stuck

@@ -1,0 +1,26 @@
+//! What a question asks, and the two memos of which it asks it.
+
+use demand_points::BatchName;
+use gate_values::Value;
+use journal_meaning::Query;
+use memo_shards::Shard;
+use plan_core::asked::Memo;
+
+/// A query, where the signal `site` is stuck at a value.
+#[derive(Clone, Copy)]
+pub struct StuckQuery {
+    pub query: Query,
+    pub site: u32,
+    pub value: Value,
+}
+
+/// The session's memo, and the memo of its own.
+#[derive(Drop)]
+pub struct Memos<B: BatchName, H: BatchName> {
+    pub session: Memo<B>,
+    /// What the query is charged in the session's memo.
+    pub charge: u32,
+    pub own: Shard<H>,
+    /// How many points it has filled in the memo of its own.
+    pub filled: u32,
+}

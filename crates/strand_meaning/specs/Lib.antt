@@ -1,2 +1,0 @@
-pub mod Strands
-pub mod Laws

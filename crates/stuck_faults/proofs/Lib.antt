@@ -1,9 +1,0 @@
-mod Held
-mod Lawful
-mod Mirrors
-mod Holding
-mod Asking
-mod Steps
-mod Resting
-mod Walks
-mod Sites

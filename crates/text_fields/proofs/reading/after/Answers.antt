@@ -1,5 +1,0 @@
-use Rattle.text_fields.proofs.Fields.{after_strips}
-use Rattle.text_fields.proofs.reading.after.Goals as goal
-
-pub returns : goal.returns
-returns c = after_strips c.args.word.now c.args.text.now c.strip_prefix.result c.strip_prefix.ensures.cases

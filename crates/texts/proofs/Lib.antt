@@ -1,0 +1,12 @@
+pub mod Comments
+pub mod Cuts
+pub mod Digits
+pub mod Finds
+pub mod NameEnds
+pub mod Stream
+pub mod Tokens
+pub mod Lines
+pub mod Rows
+pub mod Numbers
+pub mod FieldLemmas
+pub mod Items

@@ -1,0 +1,6 @@
+use Rattle.texts.specs.Text.{is_feed}
+use Rattle.texts.proofs.Finds.{first_is_position}
+use Rattle.texts.proofs.byte.feed_at.Goals as goal
+
+pub returns : goal.returns
+returns c = first_is_position is_feed c.args.bytes.now c.memchr.result c.memchr.ensures

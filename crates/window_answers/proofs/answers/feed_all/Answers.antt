@@ -1,4 +1,0 @@
-use Rattle.window_answers.proofs.answers.feed_all.Goals as goal
-
-pub count_all-requires-clause-heard : goal.count_all-requires-clause-heard
-count_all-requires-clause-heard g c = c.requires.heard c.if-heard.true

@@ -1,4 +1,0 @@
-use Rattle.window_answers.proofs.settlement.begin_settlement.Goals as goal
-
-pub returns-in-Some-clause-fills : goal.returns-in-Some-clause-fills
-returns-in-Some-clause-fills g c = c.requires.said _ c.in-Some.is
