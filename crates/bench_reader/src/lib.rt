@@ -1,7 +1,7 @@
 //! The netlist: the signals of a circuit and what drives each, read from the
 //! text form of the ISCAS'85 and ISCAS'89 benchmarks (`.bench`).
 //!
-//! The file is text after the rules of `text_rules`. Its tokens are names and
+//! The file is text after the rules of `texts`. Its tokens are names and
 //! the marks `(`, `)`, `,` and `=`; blanks may stand between them. A line that
 //! isn't blank has one of three forms:
 //!

@@ -2,6 +2,7 @@
 //!
 //! The contracts of other crates promise what is defined here. The definitions stand in `specs/`, to be read in this order:
 //!
+//! - `Edges`: the edges of clocks, and the one that a flip-flop shows at a time;
 //! - `Circuit`: what drives each signal (an input with its settings, a gate with a delay for each pin, a flip-flop with a clock), when
 //!   drivers make a circuit, and the limits within which the program accepts one;
 //! - `Forward`: the rows of values for the times 0 to the horizon, each made from the earlier rows. Delays are transport delays: even the
@@ -13,9 +14,10 @@
 //! - `Forced`: a circuit with one signal forced to a value, and the signals that are free of it;
 //! - `Laws`: theorems on these definitions.
 //!
-//! The source has small structs, which are the records of the definitions, and functions without a body, each with a law as its contract.
-//! The laws are proved here, and other crates cite them. The definitions recur on time over every earlier row, but no program has to
-//! compute these rows. `reference_simulator` is a plain program whose contract is the value defined here.
+//! The root file has small structs, which are the records of the definitions, and functions without a body, each with a law as its
+//! contract. The laws are proved here, and other crates cite them. `src/flip_flop.rt` computes which edge a flip-flop shows, and how long.
+//! The definitions recur on time over every earlier row, but no program has to compute these rows. `reference_simulator` is a plain program
+//! whose contract is the value defined here.
 //!
 //! ```
 //! let pin = Pin { signal: 0, delay: 3 };

@@ -1,10 +1,10 @@
 //! Strands: one suspended demand each.
 //!
 //! A [`Strand`] serves a window of a query. It asks for points, one after another: for the roots of the window, and, for a point
-//! that it has claimed, for the children that the point waits for. A claimed point is a walk over its pins (`pin_walks`): where a
+//! that it has claimed, for the children that the point waits for. A claimed point is a walk over its pins (`PinWalk`): where a
 //! gate's first pins decide its value, the others are not asked for. A strand hears base answers (inputs, gates before their least
 //! delay, flip-flops before their first shown edge) by itself, so that its next step is one for the memo: to ask for a point, to fill
-//! the claimed point on top of its stack, to drop it where the budget is spent, or none. `strand_meaning` says what each step makes
+//! the claimed point on top of its stack, to drop it where the budget is spent, or none. `plan_machine` says what each step makes
 //! of a strand; the contracts here say that the code does just that, and that each cell that it makes is the cell of the definitions.
 //!
 //! A strand asks the `design` what its points come from, and a shard of the memo (`memo_shards`) makes its steps.

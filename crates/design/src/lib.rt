@@ -1,4 +1,4 @@
-//! A design: a netlist joined with its delays, clocks and settings.
+//! A design: a netlist joined with its delays, clocks and settings; and the walk over the pins of a point in it.
 //!
 //! [`Design::join`] makes a design of a `Netlist`, a `Timing` and a `Stimulus`, or returns the first row at fault. `specs/Join` says
 //! which row has which cause, and what the design is. In a design a signal is a number. The model of a design is the netlist's content
@@ -8,6 +8,9 @@
 //! [`repeated_settings_are_free`] no value depends on the others. [`Design::hold`] makes the design in which one signal is forced to a
 //! value. [`Design::reached`] returns the signals that read a signal, however far back; forcing it changes no others. Whoever asks for
 //! that more than once calls [`Design::with_readers`] before.
+//!
+//! [`PinWalk`] looks at the pins of a point up to the first that decides, and comes to its cell (`src/pin_walk.rt`). Whoever evaluates
+//! a point, or checks that a cell follows from others, walks so over a design.
 //!
 //! Costs: `base` takes O(log n) steps for an input with n settings, by binary search, and constant time for a gate or a flip-flop.
 //! `gate_of`, `child_time`, `pin_span`, `span_over`, `netlist` and `horizon` take constant time. None of these allocates.

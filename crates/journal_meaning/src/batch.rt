@@ -2,7 +2,8 @@
 //!
 //! A batch is the queries that the shards of one memo are asked together. `specs/Batches` says what a batch is and which points its
 //! queries need, `specs/Lawful` what it has to be and which queries its strands may serve. `specs/Pieces` cuts the window of a query
-//! into pieces, each with a part of the query's budget. `journal_meaning` and `strand_meaning` both build on these definitions.
+//! into pieces, each with a part of the query's budget. The journal and the strands of `plan_machine`
+//! both build on these definitions.
 //!
 //! ```
 //! let query = Query { number: 1, signal: 22, from: 0, to: 11, budget: 50_000 };

@@ -1,11 +1,13 @@
-//! The journal of a memo: which journals are legal, to which state they lead, and when a query is closed.
+//! The journal of a memo: the batches of queries, which journals of them are legal, to which state they lead, and when a query is closed.
 //!
 //! A memo keeps cells of signals in shards. Each shard records what it does, one [`Entry`] a step: it tells a stored cell, a point is
 //! claimed for a query, filled or dropped, a cell is evicted, a query is refused a point. The entries of a batch of queries are its
 //! journal.
 //!
+//! - A [`Query`] is one of those that a batch asks together (`src/batch.rt`). `specs/Batches`, `specs/Lawful` and `specs/Pieces` define
+//!   batches, the points that they need, and the pieces of a window. `plan_machine` builds on these too.
 //! - [`Entry`] is a plain value that every crate above uses. The definitions in `specs/` use it as their record, together with the
-//!   points and cells of `valid_intervals` and the queries of `batch_meaning`.
+//!   points and cells of `valid_intervals` and the queries.
 //! - `specs/States` is the state of a shard. `specs/Table` says what each entry needs of the state and changes in it. `specs/Allowed`
 //!   says what it may name: points that a query of the batch needs, right cells, and at most a query's budget of claims.
 //! - `specs/Replay` folds the table over a journal, and says which journals of a batch and of a trim are legal. `specs/Sections`

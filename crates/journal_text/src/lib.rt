@@ -33,7 +33,7 @@
 //! there. [`one_section`] and [`one_journal`] say that no text is that of two. Whether the entries are legal
 //! is not this crate's matter: every list of entries is written and read.
 //!
-//! Numbers and values are written and read by `text_fields`. Writing and reading take time in proportion to
+//! Numbers and values are written and read by `texts::fields`. Writing and reading take time in proportion to
 //! the text, and memory for the result alone.
 //!
 //! ```text

@@ -1,21 +1,20 @@
 //! The cells of a batch, asked of the memo one time at a time by a strand alone.
 //!
-//! A [`Memo`] is the shards of a batch as its owner goes on alone, once no worker runs: no point is claimed. [`begin`] makes it of
-//! shards that workers left, or of new ones, and [`begin_with`] of shards of which others have noted where their entries stand. [`reach`]
-//! answers the cell of a query at one time: as a base answer, as what an entry of the batch says, or by a strand that runs alone for this
-//! one time (`plan_core`) and fills what is missing. Where that would take more evaluations than the query's budget, the query is refused.
+//! A [`Memo`] is the shards of a batch as its owner goes on alone, once no worker runs: no point is claimed. [`begin`] makes it of shards
+//! that workers left, or of new ones, and [`begin_with`] of shards of which others have noted where their entries stand. [`reach`] answers
+//! the cell of a query at one time: as a base answer, as what an entry of the batch says, or by a strand that runs alone for this one time
+//! (`Plan::run_alone`) and fills what is missing. Where that would take more evaluations than the query's budget, the query is refused.
 //!
 //! Whoever asks keeps what the query is charged, since each fill for the query counts (`IsChargedMemo`). What a call leaves is told by
 //! `HasAsked`, in the words of `plan_machine`: entries for the query alone were added, the children of what was filled are covered, and so
 //! is the time that was asked for, or else the refusal has its cause. So whoever asks for all times of a window knows that the query is
-//! closed, and `window_answers` settles batches in this way. Several calls for one query are told together by `AsksOn`, and with the
+//! closed, and `query_answers` settles batches in this way. Several calls for one query are told together by `AsksOn`, and with the
 //! claims that are freed before them by `AsksFreed`.
 //!
-//! `begin` is told which points are going to be asked for ([`Wanted`]). It reads each entry once, and notes where the entry stands that
-//! was recorded for such a point (`src/places.rt`). A strand that came to its end left an entry for each point that it heard, so whoever
-//! asks for the points that it asked for finds all of them there: each stands in its chain, and a look-up goes along the first 32 places
-//! of one.
-//! Only when a point is asked for which no entry was noted, a memo makes an index of the cells that the entries of the batch say, by
+//! `begin` is told which points are going to be asked for ([`Wanted`]). It reads each entry once, and notes where the entry stands that was
+//! recorded for such a point (`src/asked/places.rt`). A strand that came to its end left an entry for each point that it heard, so whoever
+//! asks for the points that it asked for finds all of them there: each stands in its chain, and a look-up goes along the first 32 places of
+//! one. Only when a point is asked for which no entry was noted, a memo makes an index of the cells that the entries of the batch say, by
 //! signal and first time. By its type such an index has these cells and no others. With n entries in the end:
 //! - an entry takes a few steps to be read by `begin`, and a look-up of the point for which one was noted takes as many, whatever n;
 //! - an entry that is noted takes a few numbers of memory, and any other none;

@@ -1,8 +1,8 @@
-//! The plan of a batch in code: its strands and the shards that they ask, by turns on one thread.
+//! The plan of a batch in code: its strands and the shards that they ask, by turns on one thread; and single cells, asked for alone.
 //!
 //! A [`Plan`] runs the strands of one batch in turns, on one thread. It makes the same calls of a shard (`memo_shards`) as a worker. A
-//! turn ([`Plan::turn`]) makes one step of one strand. [`Plan::run_alone`] makes the turns of one strand until it has ended. `asked_cells`
-//! calls it to ask for one cell.
+//! turn ([`Plan::turn`]) makes one step of one strand. [`Plan::run_alone`] makes the turns of one strand until it has ended. [`asked`]
+//! calls it to ask for one cell: that room has the cells of a batch, for whoever goes on alone once no worker runs.
 //!
 //! [`run_in_turn`] needs no plan: it runs strands one after another in their own slice, each alone over the shards until it has ended, up to
 //! a number of turns or without a limit, and says whether none was refused a point. No other strand holds a point meanwhile, so none waits.

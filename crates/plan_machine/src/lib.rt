@@ -1,8 +1,10 @@
 //! The plan of a batch, as a pure machine: strands that ask for points, shards that answer them, and one turn of a strand.
 //!
-//! A plan is a value (`specs/Plans`): a list of strands (`strand_meaning`), including those that wait, and a list of shards, each a state
-//! and a journal (`journal_meaning`).
+//! A plan is a value (`specs/Plans`): a list of strands, including those that wait, and a list of shards, each a state and a journal
+//! (`journal_meaning`).
 //!
+//! - `specs/Strands` says what a strand is, which step is its next ([`Next`]), and what each step makes of it. `specs/StrandLaws` has the
+//!   laws of strands, which are the contracts of functions in `src/strand.rt`.
 //! - `specs/Steps` says which step the turn of a strand is: it is told a cell, claims a point, waits, is spent, fills a point, drops one,
 //!   or is not ready. [`Turned`] is its result. `specs/Turns` defines the plan after one turn (`turn`) and after a list of turns in any
 //!   order (`run`).
@@ -17,7 +19,7 @@
 //! How code is bound to the machine: the crate that keeps a plan gives it a model whose value is a plan. It promises of its `turn` that the
 //! new value is `turn batch old number`. `specs/inner/Parts` and `specs/inner/KeptPlans` read a plan back from what code keeps: a place for
 //! each strand, with a gap if the strand waits, and shards that hold the waiting strands. Their lemmas say what each kind of step changes
-//! of these parts. The crates below promise their parts in the machine's terms: a strand's steps are those of `strand_meaning`, and a
+//! of these parts. The crates below promise their parts in the machine's terms: a strand's steps are those of `specs/Strands`, and a
 //! shard's are `recorded` and `filled_shard`. Every theorem then holds of the code, in any order of turns.
 //!
 //! The cost of a plan: with budgets of B in sum, gates of at most F pins, n strands and windows of L times in sum, every schedule makes at

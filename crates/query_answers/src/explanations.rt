@@ -1,17 +1,17 @@
 //! The answer to a question why a signal has its value at a time, asked of the memo.
 //!
-//! [`explain`] asks for the one time of a query, over shards in which nothing is recorded yet, and answers a proof: lines, each a cell
-//! of a signal, from which the value follows line by line (`IsExplained` of `session_meaning`). The lines stand in the order of their
-//! first times, and each follows from those above it by the rules of `why_proofs`. So whoever has the circuit can check the answer,
-//! and has to believe neither the memo nor this crate. Each line is a cell that an entry of the batch tells or fills, and the entries
-//! close the query. Where the answer would take more evaluations than the query's budget, the outcome is the budget, and the entries
-//! hold the cause. Each point is asked for under the query's number, charged with what was filled so far, and none after a refusal
-//! (`AsksFreed` of `asked_cells`).
+//! [`explain`] asks for the one time of a query, over shards in which nothing is recorded yet, and answers a proof: lines, each a cell of a
+//! signal, from which the value follows line by line (`IsExplained` of `session_meaning`). The lines stand in the order of their first
+//! times, and each follows from those above it by the rules of `why_proofs`. So whoever has the circuit can check the answer, and has to
+//! believe neither the memo nor what is written here. Each line is a cell that an entry of the batch tells or fills, and the entries close
+//! the query. Where the answer would take more evaluations than the query's budget, the outcome is the budget, and the entries hold the
+//! cause. Each point is asked for under the query's number, charged with what was filled so far, and none after a refusal (`AsksFreed` of
+//! `plan_core::asked`).
 //!
-//! A point that has a base answer is explained by no line. For any other, its cell is the last line. What a cell comes from is asked
-//! for at the time at which the cell was asked for (`reach` of `asked_cells`): the pins of its gate, one after another, up to the first
-//! that decides. What has no base answer among that is a line too. A told cell was evaluated in an earlier batch, so what it comes from
-//! may have left the memo, and is then evaluated again.
+//! A point that has a base answer is explained by no line. For any other, its cell is the last line. What a cell comes from is asked for at
+//! the time at which the cell was asked for (`reach` of `plan_core::asked`): the pins of its gate, one after another, up to the first that
+//! decides. What has no base answer among that is a line too. A told cell was evaluated in an earlier batch, so what it comes from may have
+//! left the memo, and is then evaluated again.
 //!
 //! The cells that are still to be lines wait in the order of their first times, and the last of them is taken each time. What it comes
 //! from begins earlier, so that no cell is taken twice, and what is taken is the proof from its end to its start.

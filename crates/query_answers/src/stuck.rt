@@ -7,7 +7,7 @@
 //!
 //! The budget holds for each of the two memos by itself. Where one of them would take more evaluations, the query is refused, that
 //! memo's entries hold the cause, and neither is asked for more. Each strand counts for the query's number and is charged with what the
-//! query filled so far in the strand's memo (`specs/Asks`).
+//! query filled so far in the strand's memo (`specs/stuck/Asks`).
 //!
 //! The design in which the site is stuck has all but that in common with the session's (`Design::hold`), so no line copies the circuit. A
 //! question is asked of an [`AskedDesign`], which works out what its site reaches, and so what is free of it, when it asks for the first

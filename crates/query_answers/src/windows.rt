@@ -4,16 +4,15 @@
 //! [`strands_of`] makes the strands of a batch's queries, one for each piece of each window. A caller runs these over the shards
 //! (`plan_core`, `worker_gate`), completely or in part. Then [`settle`] alone answers every query:
 //! - It frees the claims that are left.
-//! - For each query in order it visits the points that the query had filled before settlement. `asked_cells` finds the cell of each looked
-//!   pin among the base answers and the cells that entries of the batch say, or asks for it by a strand that runs alone.
-//!   If `heard` is true, the visits are left out, and the points are only counted: the caller knows that each evaluated point has heard
-//!   its children.
-//!   Where the caller hands over what was noted of the entries (`Said` of `asked_cells`), it is not noted and counted again.
+//! - For each query in order it visits the points that the query had filled before settlement. `plan_core::asked` finds the cell of each
+//!   looked pin among the base answers and the cells that entries of the batch say, or asks for it by a strand that runs alone. If `heard`
+//!   is true, the visits are left out, and the points are only counted: the caller knows that each evaluated point has heard its children.
+//!   Where the caller hands over what was noted of the entries (`Said` of `plan_core::asked`), it is not noted and counted again.
 //! - For each query in order it walks the window from cell to cell in the same way, and gathers its runs.
 //!
-//! The outcome of a query that is refused meanwhile is its budget, and that of any other its waveform (`specs/Settlement`). The charge of a
-//! strand at its start is the number of the query's fills in the batch so far, at most its budget. No strand is started for a query that
-//! was refused (`AsksOn` of `asked_cells`). If memory runs out, the shards are dropped.
+//! The outcome of a query that is refused meanwhile is its budget, and that of any other its waveform (`specs/windows/Settlement`). The
+//! charge of a strand at its start is the number of the query's fills in the batch so far, at most its budget. No strand is started for a
+//! query that was refused (`AsksOn` of `plan_core::asked`). If memory runs out, the shards are dropped.
 //!
 //! The cost of settlement grows with what the batch recorded, and not with the number of its queries. Let n be the final number of entries
 //! in the journals:
@@ -24,7 +23,7 @@
 //!   left an entry for each of these points, and such an entry is found by hashing. If all strands came to their ends, a look-up therefore
 //!   takes a few steps, whatever n.
 //! - If `heard` is true, no point is visited, and pins are not looked up. So the first scan, if there is one, notes only entries for
-//!   points in the windows, with few others (`Wanted::windows` of `asked_cells`), and the second only counts the fills of each query.
+//!   points in the windows, with few others (`Wanted::windows`), and the second only counts the fills of each query.
 //! - The first look-up of a point without a noted entry makes an index of all cells, in O(n log n) steps. From then on such a look-up
 //!   takes O(log n) steps, and so does each added entry.
 //! - A look-up that finds nothing starts a strand. The strand adds at least one entry, and takes a step for each shard.

@@ -25,12 +25,12 @@
 //! halt left is not finished, nor is a dump that could not be written or finished. Nothing is taken back, and nothing is written after
 //! a failed write.
 //!
-//! Costs: a block of 4,096 bytes of the script at a time, the stores (as many cells as there is room for, in each shard), and for a
-//! unit what answers it, its entries and its replies among it. The replies of a batch are kept for a dump, moved and not copied, and
-//! given up before the next batch is answered. What the last stuck signal reaches is kept, a flag for each signal, from the first question
-//! on that asks which signals these are, and the links from signals to their readers, one for each pin; so further questions about the
-//! same signal do not look for it again (`stuck_faults`). The time beside the answers is in proportion to the bytes that are read and
-//! written; that of a dump to its changes, with the sorting of them by time. Where a session ends well its stores are handed back.
+//! Costs: a block of 4,096 bytes of the script at a time, the stores (as many cells as there is room for, in each shard), and for a unit
+//! what answers it, its entries and its replies among it. The replies of a batch are kept for a dump, moved and not copied, and given up
+//! before the next batch is answered. What the last stuck signal reaches is kept, a flag for each signal, from the first question on that
+//! asks which signals these are, and the links from signals to their readers, one for each pin; so further questions about the same signal
+//! do not look for it again (`query_answers::stuck`). The time beside the answers is in proportion to the bytes that are read and written;
+//! that of a dump to its changes, with the sorting of them by time. Where a session ends well its stores are handed back.
 //!
 //! ```text
 //! let service = Service { alloc, design: &design, sizes: Sizes { shards: 4, cells: 16_384 } };

@@ -1,6 +1,6 @@
 //! The stimulus file: how long the simulation runs, and when the inputs are set.
 //!
-//! The file is text after the rules of `text_rules`. Its lines have two forms,
+//! The file is text after the rules of `texts`. Its lines have two forms,
 //! whose words are divided by blanks and whose keywords are in lower case:
 //!
 //! | line | meaning |

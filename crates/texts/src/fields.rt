@@ -13,10 +13,10 @@
 //!
 //! [`after`], [`field_of`] and [`value_of`] read what stands at the front of
 //! some bytes, and give the bytes behind it; `None` where it does not stand
-//! there. `specs/Spelling` says how a number is written, and `specs/Reading`
-//! what is read. The other text files of the simulator, whose words may stand
-//! behind any blanks and whose numbers may begin with zeros, are read by
-//! `text_rules`.
+//! there. `specs/fields/Spelling` says how a number is written, and
+//! `specs/fields/Reading` what is read. The other text files of the simulator,
+//! whose words may stand behind any blanks and whose numbers may begin with
+//! zeros, are read by the rules of this crate's root.
 //!
 //! A call takes time in proportion to what it reads or writes. Only
 //! [`push_field`] takes memory.

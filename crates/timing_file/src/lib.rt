@@ -1,6 +1,6 @@
 //! The timing file: delays, clocks and initial values.
 //!
-//! The file is text after the rules of `text_rules`. The words of a line are
+//! The file is text after the rules of `texts`. The words of a line are
 //! divided by blanks, keywords are in lower case, and the order of the lines is
 //! free. A FIRST is from 0 to 1,000,000, a PERIOD and a DELAY from 1 to
 //! 1,000,000, a place K from 0 to 63.

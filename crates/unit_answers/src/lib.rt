@@ -3,8 +3,8 @@
 //! Between two units the memo is one [`cell_store::CellStore`] for each shard. [`answer_batch`] opens the shards over them under the
 //! batch's name, has a crew run the strands, settles, and closes the shards. It returns the replies, the journal of each shard, and the
 //! stores. [`answer_question`] opens and closes the shards in the same way, and asks for one cell after another, without a crew. The
-//! question is when a signal first has a value (`first_times`), why it has its value at a time, by a proof (`explanations`), or which wave
-//! it has if another signal is stuck (`stuck_faults`). The last asks the stores for what is free of the stuck signal, and a second memo for
+//! question is when a signal first has a value, why it has its value at a time, by a proof, or which wave it has if another signal is
+//! stuck; a room of `query_answers` answers each. The last asks the stores for what is free of the stuck signal, and a second memo for
 //! all else. [`trim_stores`] evicts the least recent cells. `specs/Done` says what each call returns. [`dump_waves`] writes the waves in
 //! the replies to a batch as a dump (`vcd_answers`), and asks nothing.
 //!
@@ -16,9 +16,9 @@
 //!
 //! No cell and no journal is copied. A batch takes the time of its strands and its settlement, and one step for each item and each shard. A
 //! question for a first time or an explanation takes one look-up of its name, a step for each shard, and the time of its walk
-//! (`first_times`, `explanations`). One for a wave with a stuck signal takes also what is worked out of that signal, unless the question
-//! before was about the same one: so [`answer_question`] is given a `query_answers::stuck::AskedDesign`, which keeps it. A trim takes O(log n) steps
-//! for each cell that it removes from n.
+//! (`query_answers`). One for a wave with a stuck signal takes also what is worked out of that signal, unless the question before was about
+//! the same one: so [`answer_question`] is given a `query_answers::stuck::AskedDesign`, which keeps it. A trim takes O(log n) steps for
+//! each cell that it removes from n.
 //!
 //! ```text
 //! let done = answer_batch(&crew, alloc, &design, &items, sizes, stores)?;

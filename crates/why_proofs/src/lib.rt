@@ -11,7 +11,7 @@
 //! The first line claims that the signal `n3` has the value 1 at the time 6. Each `cell` line, `cell SIGNAL START END VALUE`, says
 //! that the signal with this number has this value from START on and below END, for one cause. Words are divided by one blank, every
 //! line ends with a line feed, and a number is decimal, has no leading zero and is at most 4,294,967,295 (`specs/Spelling`,
-//! `text_fields`).
+//! `texts::fields`).
 //!
 //! A proof is justified (`specs/Justified`) if each cell line follows from the lines above it by the rules of values and cells: its
 //! signal's gate looks at its pins at START, one after another, as far as the first that decides; each pin that it looks at is

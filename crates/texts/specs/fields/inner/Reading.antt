@@ -1,4 +1,4 @@
--- What only the proofs and the private functions of this crate speak of, beside `Reading`.
+-- What only the proofs and the private functions of `fields` speak of, beside `Reading`.
 use Rattle.std.specs.Prelude.{ℕ, ◌-◌, List, [], ◌∷◌, Option, Some, None, if◌then◌else◌}
 use Rattle.std.specs.Char.{is_ascii_digit}
 
