@@ -8,7 +8,7 @@ here=$(cd "$(dirname "$0")" && pwd)
 . "$here/../common.sh"
 begin "$here"
 copy_crates "$copy/repository" cell_store
-echo "cell_store_time: owned_text gate_values valid_intervals cell_store" >>"$copy/repository/crates.txt"
+echo "cell_store_time: gate_values valid_intervals texts cell_store" >>"$copy/repository/crates.txt"
 program=$copy/repository/crates/cell_store_time
 mkdir -p "$program/src" "$program/specs" "$program/proofs/put" "$program"/proofs/{put_all,put_in_order}
 cp "$here/program.txt" "$program/src/main.rt"

@@ -5,7 +5,7 @@ here=$(cd "$(dirname "$0")" && pwd)
 . "$here/../common.sh"
 begin "$here"
 copy_crates "$copy/repository" journal_text
-echo "journal_text_time: owned_text gate_values valid_intervals circuit_meaning batch_meaning journal_meaning text_fields journal_text" >>"$copy/repository/crates.txt"
+echo "journal_text_time: gate_values valid_intervals circuit_meaning journal_meaning texts journal_text" >>"$copy/repository/crates.txt"
 program=$copy/repository/crates/journal_text_time
 mkdir -p "$program/src"
 cp "$here/program.txt" "$program/src/main.rt"

@@ -7,7 +7,7 @@ here=$(cd "$(dirname "$0")" && pwd)
 . "$here/../common.sh"
 begin "$here"
 copy_crates "$copy/repository" memo_shards
-echo "memo_time: smallvec owned_text gate_values valid_intervals circuit_meaning batch_meaning journal_meaning strand_meaning plan_machine cell_store claim_waiters line_faults bench_reader timing_file stimulus_file design pin_walks demand_points memo_shards" >>"$copy/repository/crates.txt"
+echo "memo_time: smallvec gate_values valid_intervals circuit_meaning journal_meaning plan_machine texts cell_store claim_waiters bench_reader timing_file stimulus_file design demand_points memo_shards" >>"$copy/repository/crates.txt"
 program=$copy/repository/crates/memo_time
 mkdir -p "$program/src" "$program/proofs/serve" "$program/proofs/serve_loop"
 cp "$here/program.txt" "$program/src/main.rt"

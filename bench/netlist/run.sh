@@ -24,7 +24,7 @@ trap 'rm -rf "$work"' EXIT
 copy_crates "$work" bench_reader
 mkdir -p "$work/crates/netlist_time/src"
 cp "$here/program.txt" "$work/crates/netlist_time/src/main.rt"
-echo "netlist_time: line_faults bench_reader anyhow" >>"$work/crates.txt"
+echo "netlist_time: texts bench_reader anyhow" >>"$work/crates.txt"
 (cd "$work/crates/netlist_time" && rt run -- "$out/million.bench" >/dev/null)
 proved=$work/crates/netlist_time/out/netlist_time
 
