@@ -22,7 +22,7 @@ use Rattle.backsim.specs.Serves.{ServesSession, ServesWorkload, Serves}
 use Rattle.backsim.specs.Session.{Given, AreGiven, IsServed}
 use Rattle.backsim.specs.inner.Stops.{Tells}
 use Rattle.backsim.proofs.Ends.{grows-nothing, tells-whole, tells-part, ok-first, IsEarly, early-not_ended}
-use Rattle.session_loop.proofs.Changes.{none-unfinished}
+use Rattle.session_loop.proofs.Callers.{none-unfinished}
 use Rattle.backsim.proofs.Explained.{outside_at, none-open}
 use Rattle.backsim.specs.declared.status.Input.TheVariants as inputs
 use Rattle.backsim.specs.declared.status.Output.TheVariants as outputs

@@ -1,6 +1,6 @@
-pub mod Explained
-pub mod Ends
-pub mod Halts
-pub mod Asked
-pub mod Ranges
-pub mod Worked
+mod Explained
+mod Ends
+mod Halts
+mod Asked
+mod Ranges
+mod Worked

@@ -31,8 +31,7 @@ use Rattle.backsim.specs.declared.status.Output.TheVariants as outputs
 use Rattle.backsim.specs.declared.status.NamedFile.TheVariants as named
 use Rattle.backsim.specs.declared.status.Status.{Status}
 use Rattle.backsim.specs.declared.status.Status.TheVariants.{Ended, WriteFault, FileFault, OutOfMemory}
-use Rattle.session_loop.proofs.Changes.{work-finished}
-use Rattle.session_loop.proofs.Changes.{none-unfinished}
+use Rattle.session_loop.proofs.Callers.{work-finished, none-unfinished}
 use Rattle.backsim.proofs.Explained.{outside_at}
 
 -- the workload's items are a batch of a script

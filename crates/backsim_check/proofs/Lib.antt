@@ -1,4 +1,4 @@
-pub mod Clashes
-pub mod Verdicts
-pub mod Read
-pub mod Judged
+mod Clashes
+mod Verdicts
+mod Read
+mod Judged

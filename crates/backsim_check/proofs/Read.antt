@@ -14,7 +14,7 @@ use Rattle.circuit_files.specs.declared.refusal.CircuitFile.TheVariants.{Netlist
 use Rattle.circuit_files.specs.declared.refusal.FileRefusal.{FileRefusal}
 use Rattle.circuit_files.specs.declared.stop.FilesStop.{FilesStop}
 use Rattle.circuit_files.specs.declared.stop.FilesStop.TheVariants as files
-use Rattle.circuit_files.proofs.Changed.{opened-later, missing-later, unread-later}
+use Rattle.circuit_files.proofs.Callers.{opened-later, missing-later, unread-later}
 use Rattle.backsim_check.specs.Texts.{too_long}
 use Rattle.backsim_check.specs.inner.Judged.{stop_of, proof_stop, StopChanges, StopsFirst, RefusesRight}
 use Rattle.backsim_check.proofs.Clashes.{ok-not-err}

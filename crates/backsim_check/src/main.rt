@@ -42,10 +42,9 @@ mod lines;
 mod reading;
 mod status;
 
+use backsim_io::{RealFiles, RealSink, words_after_name};
 pub use checking::check;
 pub use status::CheckStatus;
-
-use backsim_io::{RealFiles, RealSink, words_after_name};
 use std::process::ExitCode;
 use std::{env, io};
 use texts::OutOfMemory;

@@ -1,15 +1,15 @@
-pub mod Forms
-pub mod Places
-pub mod Placing
-pub mod Hashing
-pub mod Vectors
-pub mod Chained
-pub mod Numbering
-pub mod Keying
-pub mod Keys
-pub mod Sound
-pub mod Rows
-pub mod Steps
-pub mod End
-pub mod Loop
-pub mod Whole
+mod Forms
+mod Places
+mod Placing
+mod Hashing
+mod Vectors
+mod Chained
+mod Numbering
+mod Keying
+mod Keys
+mod Sound
+mod Rows
+mod Steps
+mod End
+mod Loop
+mod Whole

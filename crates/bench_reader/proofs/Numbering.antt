@@ -5,7 +5,7 @@ use Rattle.std.specs.List.{position}
 use Rattle.std.specs.Str.{bytes_eq}
 use Rattle.std.proofs.lemmas.Bool.{lt-ltb, le-ltb}
 use Rattle.std.proofs.lemmas.List.{length-set, get_or_append_left, get_or_push}
-use Rattle.texts.proofs.Cuts.{found, found_none}
+use Rattle.texts.proofs.Callers.{found, found_none}
 use Rattle.indexmap.specs.IndexSet.{insert_key}
 use Rattle.bench_reader.specs.Netlists.{place, is_among}
 use Rattle.bench_reader.specs.inner.Chains.{bucket_of, bucket_at, last_in, IsChained, AreChained, BeginsChain, IsNowhere, HasNumber, IsEachOnce}

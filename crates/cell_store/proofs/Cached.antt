@@ -8,7 +8,7 @@ use Rattle.valid_intervals.specs.declared.SignalCell.{SignalCell}
 use Rattle.valid_intervals.specs.Cells.{same_stored, is_stored}
 use Rattle.cell_store.specs.Recency.{key_of, IsApart, FitsStore}
 use Rattle.cell_store.specs.inner.Index.{has_key}
-use Rattle.valid_intervals.proofs.Same.{same_stored-true, same_stored-itself}
+use Rattle.valid_intervals.proofs.Callers.{same_stored-true, same_stored-itself}
 use Rattle.cell_store.proofs.Keys.{first_point, covers_first, shares_first, differs, told_apart, has_key-itself}
 use Rattle.cell_store.proofs.Found.{none_some, found_true, found_all}
 

@@ -10,7 +10,7 @@ use Rattle.valid_intervals.specs.declared.SignalCell.{SignalCell}
 use Rattle.valid_intervals.specs.Cells.{same_stored}
 use Rattle.cell_store.specs.Recency.{IsApart, AreApart}
 use Rattle.cell_store.specs.inner.Index.{cells_of, times, uses_of, places_of, AreSlots}
-use Rattle.valid_intervals.proofs.Same.{same_stored-itself}
+use Rattle.valid_intervals.proofs.Callers.{same_stored-itself}
 use Rattle.cell_store.proofs.Keys.{told_apart}
 use Rattle.cell_store.proofs.Found.{none_some, found_true}
 use Rattle.cell_store.proofs.Cached.{all_kept, all_differ}

@@ -9,7 +9,7 @@ use Rattle.valid_intervals.specs.declared.SignalCell.{SignalCell}
 use Rattle.valid_intervals.specs.Cells.{same_stored, covers, cell_for, to_front, stored_at}
 use Rattle.cell_store.specs.declared.Key.{Key}
 use Rattle.cell_store.specs.inner.Index.{cells_of, IsInFront, IsStoreIndex}
-use Rattle.valid_intervals.proofs.Same.{same_stored-itself}
+use Rattle.valid_intervals.proofs.Callers.{same_stored-itself}
 use Rattle.cell_store.proofs.Keys.{covers_true}
 use Rattle.cell_store.proofs.Found.{none_some}
 use Rattle.cell_store.proofs.Cached.{all_kept, all_differ}

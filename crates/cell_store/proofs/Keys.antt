@@ -10,7 +10,7 @@ use Rattle.valid_intervals.specs.Cells.{same_stored, covers}
 use Rattle.cell_store.specs.declared.Key.{Key}
 use Rattle.cell_store.specs.Recency.{key_of, IsApart}
 use Rattle.cell_store.specs.inner.Index.{key_cmp, has_key}
-use Rattle.valid_intervals.proofs.Same.{same_stored-true}
+use Rattle.valid_intervals.proofs.Callers.{same_stored-true}
 
 pub record IsCovered (p : Point) (x : SignalCell) : Type 0 where
   pub signal : x.signal ≡ p.signal

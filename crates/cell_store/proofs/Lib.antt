@@ -1,22 +1,23 @@
-pub mod Keys
-pub mod Found
-pub mod Cached
-pub mod Entries
-pub mod Uses
-pub mod Celled
-pub mod StoreIndex
-pub mod Placed
-pub mod Calls
-pub mod Puts
-pub mod Trims
-pub mod Front
-pub mod Links
-pub mod Lists
-pub mod Listed
-pub mod Indexed
-pub mod Nodes
-pub mod Pages
-pub mod Results
-pub mod Owned
-pub mod Starts
-pub mod Emptied
+mod Keys
+mod Found
+mod Cached
+mod Entries
+mod Uses
+mod Celled
+mod StoreIndex
+mod Placed
+mod Calls
+mod Puts
+mod Trims
+mod Front
+mod Links
+mod Lists
+mod Listed
+mod Indexed
+mod Nodes
+mod Pages
+mod Results
+mod Owned
+mod Starts
+mod Emptied
+pub mod Callers

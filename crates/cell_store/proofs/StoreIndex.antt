@@ -11,7 +11,7 @@ use Rattle.valid_intervals.specs.Cells.{same_stored, to_front}
 use Rattle.cell_store.specs.declared.Key.{Key}
 use Rattle.cell_store.specs.Recency.{key_of, IsApart, AreApart}
 use Rattle.cell_store.specs.inner.Index.{key_cmp, has_key, IsStoreIndex}
-use Rattle.valid_intervals.proofs.Same.{same_stored-true, same_stored-itself}
+use Rattle.valid_intervals.proofs.Callers.{same_stored-true, same_stored-itself}
 use Rattle.cell_store.proofs.Keys.{first_point, covers_first, shares_first, has_key-true, key_eq-is, equal_keys}
 use Rattle.cell_store.proofs.Found.{none_some, found_true, found_all, found_at_key}
 

@@ -1,5 +1,6 @@
-pub mod Changed
-pub mod Contents
-pub mod Designed
-pub mod Firsts
-pub mod WaysOut
+mod Changed
+mod Contents
+mod Designed
+mod Firsts
+mod WaysOut
+pub mod Callers

@@ -6,7 +6,7 @@ use Rattle.std.proofs.lemmas.List.Elements.{recursion_from_All, All-from_recursi
 use Rattle.gate_values.specs.declared.Value.{Value}
 use Rattle.gate_values.specs.declared.Kind.TheVariants.{Dff}
 use Rattle.gate_values.specs.Gates.{gate_value, decides}
-use Rattle.gate_values.proofs.Looked.{cut_alike}
+use Rattle.gate_values.proofs.Callers.{cut_alike}
 use Rattle.circuit_meaning.specs.Circuit.{Setting, Pin, FlipFlop, Driver, Input, Gate, Flop, Circuit, driver, IsCircuit, IsDriver, read_by}
 use Rattle.circuit_meaning.specs.Forward.{value, value_from, seen_value, flop_value}
 use Rattle.circuit_meaning.specs.Edges.{shown_edge}

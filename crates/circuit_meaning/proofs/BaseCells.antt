@@ -6,8 +6,7 @@ use Rattle.std.proofs.Math.ListN.{length-map}
 use Rattle.gate_values.specs.declared.Value.TheVariants.{X}
 use Rattle.gate_values.specs.declared.Kind.{Kind}
 use Rattle.gate_values.specs.Gates.{gate_value, is_unknown}
-use Rattle.gate_values.proofs.Pins.{allows-some}
-use Rattle.gate_values.proofs.Unknown.{gate_value-unknown}
+use Rattle.gate_values.proofs.Callers.{allows-some, gate_value-unknown}
 use Rattle.circuit_meaning.specs.Edges.{shown_edge, flop_span}
 use Rattle.valid_intervals.specs.Spans.{from_to}
 use Rattle.valid_intervals.specs.declared.Cell.{Cell}

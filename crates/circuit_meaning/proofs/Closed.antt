@@ -4,7 +4,7 @@ use Rattle.std.proofs.lemmas.List.Elements.{All-contains}
 use Rattle.gate_values.specs.declared.Value.{Value}
 use Rattle.gate_values.specs.declared.Value.TheVariants.{Z}
 use Rattle.gate_values.specs.declared.Kind.TheVariants.{Dff}
-use Rattle.gate_values.proofs.Unknown.{gate_value-not_z}
+use Rattle.gate_values.proofs.Callers.{gate_value-not_z}
 use Rattle.circuit_meaning.specs.Edges.{shown_edge}
 use Rattle.circuit_meaning.specs.declared.Window.{Window}
 use Rattle.circuit_meaning.specs.Circuit.{FlipFlop, Driver, Input, Gate, Flop, Circuit, IsCircuit, IsDriver, driver, read_by}

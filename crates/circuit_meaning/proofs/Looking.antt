@@ -7,7 +7,7 @@ use Rattle.gate_values.specs.declared.Value.TheVariants.{X}
 use Rattle.gate_values.specs.declared.Kind.{Kind}
 use Rattle.gate_values.specs.declared.Kind.TheVariants.{Dff}
 use Rattle.gate_values.specs.Gates.{gate_value, decides, up_to_first}
-use Rattle.gate_values.proofs.Looked.{gate_value-looked, cut_alike, map-up_to_first}
+use Rattle.gate_values.proofs.Callers.{gate_value-looked, cut_alike, map-up_to_first}
 use Rattle.valid_intervals.specs.declared.Point.{Point}
 use Rattle.circuit_meaning.specs.Edges.{shown_edge}
 use Rattle.circuit_meaning.specs.declared.Pin.{Pin}

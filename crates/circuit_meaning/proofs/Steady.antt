@@ -7,7 +7,7 @@ use Rattle.gate_values.specs.declared.Value.{Value}
 use Rattle.gate_values.specs.declared.Value.TheVariants.{X}
 use Rattle.gate_values.specs.declared.Kind.{Kind}
 use Rattle.gate_values.specs.Gates.{gate_value, decides}
-use Rattle.gate_values.proofs.Looked.{gate_value-looked, cut_alike, map-up_to_first}
+use Rattle.gate_values.proofs.Callers.{gate_value-looked, cut_alike, map-up_to_first}
 use Rattle.circuit_meaning.specs.Circuit.{Pin, Driver, Input, Gate, Flop, Circuit, driver, IsCircuit, IsDriver}
 use Rattle.circuit_meaning.specs.declared.flip_flop.Clock.{Clock}
 use Rattle.circuit_meaning.specs.Forward.{value, value_from, seen_value, flop_value, input_value}

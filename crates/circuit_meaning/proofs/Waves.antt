@@ -6,7 +6,7 @@ use borrow.Author.Tests.{ne_eqb, eq-eqb}
 use Rattle.std.proofs.lemmas.List.Elements.{filter-append}
 use Rattle.std.proofs.lemmas.List.{map-append}
 use Rattle.gate_values.specs.Gates.{same_value}
-use Rattle.gate_values.proofs.Same.{same_itself, same_is, other_is}
+use Rattle.gate_values.proofs.Callers.{same_itself, same_is, other_is}
 use Rattle.circuit_meaning.specs.Circuit.{Circuit, IsCircuit}
 use Rattle.circuit_meaning.specs.Laws.{changes, WavesAreChanges, GoOn, AreMaximal}
 use Rattle.circuit_meaning.specs.Cells.{span}

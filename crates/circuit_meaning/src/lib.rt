@@ -36,7 +36,6 @@ ghost use Rattle.std.specs.Prelude.{ℕ};
 mod flip_flop;
 
 pub use flip_flop::{Clock, edges_are_last, flop_span, last_edge};
-
 use gate_values::Value;
 
 /// A setting: the input has this value from this time until its next setting.

@@ -15,7 +15,7 @@ use Rattle.valid_intervals.specs.declared.Point.{Point}
 use Rattle.valid_intervals.specs.Cells.{point_cmp}
 use Rattle.claim_waiters.specs.Claims.{WaitedClaim, Claims, IsAtMost, claim_at, holder_in, waiters_of, first_of, with_claim, without_claim, with_waiter}
 use Rattle.claim_waiters.specs.inner.View.{at, claims_with, those_in, IsClaimTable}
-use Rattle.valid_intervals.proofs.Same.{same_point-itself}
+use Rattle.valid_intervals.proofs.Callers.{same_point-itself}
 use Rattle.claim_waiters.proofs.Tables.{at-is, at-same, at-inserted, put-back}
 
 -- no point of a list is p

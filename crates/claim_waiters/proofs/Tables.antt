@@ -14,7 +14,7 @@ use Rattle.std.proofs.lemmas.Map.{lookup-remove_entry}
 use Rattle.std.proofs.lemmas.Map.Keys.{IsDistinct-from_sorted, sorted_head, sorted_tail}
 use Rattle.valid_intervals.specs.declared.Point.{Point}
 use Rattle.valid_intervals.specs.Cells.{same_point, point_cmp}
-use Rattle.valid_intervals.proofs.Same.{same_point-true, same_point-itself}
+use Rattle.valid_intervals.proofs.Callers.{same_point-true, same_point-itself}
 use Rattle.claim_waiters.specs.Claims.{WaitedClaim, Claims, IsInOrder, claim_at, holder_in, waiting_in, waiters_at, with_claim, without_claim, add_waiter, with_waiter}
 use Rattle.claim_waiters.specs.inner.View.{at}
 

@@ -4,5 +4,5 @@ mod Lexing
 mod Turns
 mod Walks
 mod Document
-pub mod Answer
-pub mod Orders
+mod Answer
+mod Orders

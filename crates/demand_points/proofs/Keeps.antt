@@ -10,8 +10,7 @@ use Rattle.journal_meaning.specs.Batches.{Batch, window_of}
 use Rattle.plan_machine.specs.declared.strand.Next.TheVariants.{Ask, Fill}
 use Rattle.journal_meaning.specs.Lawful.{IsLawful, IsQueryOf}
 use Rattle.plan_machine.specs.Strands.{Strand, IsStrand, next, after_answer, after_claim, after_fill, rest}
-use Rattle.plan_machine.proofs.Stacks.{heard-keeps, claimed-keeps, finished-keeps, length-heard, length-rest, fill-top}
-use Rattle.plan_machine.proofs.Started.{started-right, query-within}
+use Rattle.plan_machine.proofs.Callers.{heard-keeps, claimed-keeps, finished-keeps, length-heard, length-rest, fill-top, started-right, query-within}
 use Rattle.design.specs.declared.pin_walk.PinWalk.{PinWalk}
 use Rattle.demand_points.specs.declared.parts.Parts.{Parts}
 use Rattle.demand_points.specs.inner.Bases.{shown_frame}

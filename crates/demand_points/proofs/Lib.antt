@@ -1,4 +1,4 @@
-pub mod Tops
-pub mod Lists
-pub mod PartLemmas
-pub mod Keeps
+mod Tops
+mod Lists
+mod PartLemmas
+mod Keeps

@@ -9,10 +9,9 @@ use Rattle.circuit_meaning.specs.Circuit.{Circuit, Driver, Input, Gate, Flop, dr
 use Rattle.circuit_meaning.specs.Cells.{span}
 use Rattle.circuit_meaning.specs.Need.{HasChildren, IsEvaluable}
 use Rattle.circuit_meaning.specs.Looks.{somes}
-use Rattle.circuit_meaning.proofs.Cover.{cell-covers}
-use Rattle.circuit_meaning.proofs.Looking.{children-somes}
+use Rattle.circuit_meaning.proofs.Callers.{cell-covers, children-somes}
 use Rattle.plan_machine.specs.Strands.{has_children, is_evaluable, asked_children, roots_from}
-use Rattle.plan_machine.proofs.Stacks.{evaluable-true}
+use Rattle.plan_machine.proofs.Callers.{evaluable-true}
 use Rattle.design.specs.declared.pin_walk.PinWalk.{PinWalk}
 use Rattle.design.specs.PinWalks.{looked_at, next_point, IsPinWalk, IsLooking, LooksOn}
 use Rattle.demand_points.specs.inner.Bases.{left_after, HearsBases, HearsBase}

@@ -6,13 +6,11 @@ use Rattle.std.proofs.Math.ListN.{get_or-map, length-map}
 use Rattle.valid_intervals.specs.declared.Cell.{Cell}
 use Rattle.valid_intervals.specs.declared.Point.{Point}
 use Rattle.circuit_meaning.specs.Edges.{shown_edge}
-use Rattle.circuit_meaning.proofs.EdgeLemmas.{shown_edge-le}
+use Rattle.circuit_meaning.proofs.Callers.{shown_edge-le, driver_fits, cell-covers}
 use Rattle.circuit_meaning.specs.Circuit.{Circuit, Driver, Input, Gate, Flop, driver, IsCircuit, IsDriver}
 use Rattle.circuit_meaning.specs.Cells.{span, cell_at}
 use Rattle.circuit_meaning.specs.Need.{IsEvaluable, IsRoot, Next}
 use Rattle.circuit_meaning.specs.Looks.{pin_point, flop_points, pin_points_at, no_pin}
-use Rattle.circuit_meaning.proofs.Equations.{driver_fits}
-use Rattle.circuit_meaning.proofs.Cover.{cell-covers}
 use Rattle.journal_meaning.specs.Batches.{window_of}
 use Rattle.plan_machine.specs.declared.strand.Next.TheVariants.{Ask, Fill, Drop, Done}
 use Rattle.plan_machine.specs.declared.strand.Next as declared
@@ -25,7 +23,7 @@ use Rattle.design.specs.PinWalks.{cell_there, looked_at, next_point, IsPoint, Is
 use Rattle.demand_points.specs.inner.Bases.{left_after, IsReady, IsHearing, HearsBases, HearsAllBases, shown_frame}
 use Rattle.demand_points.specs.inner.Demands.{window_in, root_point, strand_of, IsReadyIn, IsReadyAt, IsRootReady, WaitsFor, AreWalks, IsRunning, IsRootKnown, IsUndone, TakesStepTo}
 use Rattle.demand_points.specs.Demands.{roots_left, IsAskedCell, itself}
-use Rattle.design.proofs.PinWalkLemmas.{looking-below, next-among}
+use Rattle.design.proofs.Callers.{looking-below, next-among}
 use Rattle.demand_points.proofs.Lists.{left-done, left-all, left-ask, looked-left, no-roots, root-base, root-ask}
 
 -- the point that a pin of a walk reads is one of the circuit

@@ -8,8 +8,7 @@ use Rattle.gate_values.specs.declared.Value.{Value}
 use Rattle.gate_values.specs.declared.Value.TheVariants.{X}
 use Rattle.gate_values.specs.declared.Kind.{Kind}
 use Rattle.gate_values.specs.Gates.{is_unknown}
-use Rattle.gate_values.proofs.Pins.{allows-some}
-use Rattle.gate_values.proofs.Unknown.{gate_value-unknown}
+use Rattle.gate_values.proofs.Callers.{allows-some, gate_value-unknown}
 use Rattle.valid_intervals.specs.declared.Cell.{Cell}
 use Rattle.valid_intervals.specs.Spans.{Span, from_to}
 use Rattle.circuit_meaning.specs.Edges.{shown_edge, flop_span}
@@ -20,8 +19,7 @@ use Rattle.circuit_meaning.specs.Circuit.{Driver, Input, Gate, Flop, Circuit, dr
 use Rattle.circuit_meaning.specs.Forward.{value, value_from, seen_value, flop_value, input_value, last_setting}
 use Rattle.circuit_meaning.specs.Cells.{span, span_from, least_delay, input_start, next_setting, looked_pins, pin_span, cell_at, point_at}
 use Rattle.circuit_meaning.specs.Need.{IsEvaluable, HasChildren}
-use Rattle.circuit_meaning.proofs.Equations.{value_is, span_is, all_imply}
-use Rattle.circuit_meaning.proofs.Steady.{least, seen-early, map_all, gate_span-early}
+use Rattle.circuit_meaning.proofs.Callers.{value_is, span_is, all_imply, least, seen-early, map_all, gate_span-early}
 use Rattle.design.specs.declared.rows.SignalView.{SignalView as View}
 use Rattle.design.specs.declared.rows.SignalView.TheVariants as row
 use Rattle.design.specs.inner.KeptDesigns.{IsViewOf, driver_seen}

@@ -6,7 +6,7 @@ use Rattle.std.proofs.lemmas.List.Elements.{recursion_from_All, All-from_recursi
 use Rattle.gate_values.specs.declared.Value.{Value}
 use Rattle.gate_values.specs.declared.Value.TheVariants.{X}
 use Rattle.gate_values.specs.Gates.{same_value}
-use Rattle.gate_values.proofs.Same.{same_is, other_is}
+use Rattle.gate_values.proofs.Callers.{same_is, other_is}
 use Rattle.circuit_meaning.specs.declared.Setting.{Setting}
 use Rattle.design.specs.inner.KeptDesigns.{InTimeOrder}
 use Rattle.design.specs.inner.Changes.{is_at_one_value, begins_with_x}

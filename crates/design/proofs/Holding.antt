@@ -11,8 +11,7 @@ use Rattle.gate_values.specs.declared.Value.{Value}
 use Rattle.circuit_meaning.specs.declared.Setting.{Setting}
 use Rattle.circuit_meaning.specs.Circuit.{Input, Driver, Circuit, IsDriver, AreLimits, AreDriverLimits, pin_count, driver, read_by}
 use Rattle.circuit_meaning.specs.Forced.{forced_circuit}
-use Rattle.circuit_meaning.proofs.Alike.{held-fits}
-use Rattle.circuit_meaning.proofs.Equations.{driver_fits}
+use Rattle.circuit_meaning.proofs.Callers.{held-fits, driver_fits}
 use Rattle.design.specs.declared.held.HeldSignal.{HeldSignal}
 use Rattle.design.specs.declared.rows.SignalView.{SignalView as View}
 use Rattle.design.specs.declared.rows.SignalView.TheVariants as view

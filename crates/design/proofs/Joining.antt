@@ -13,7 +13,7 @@ use Rattle.gate_values.specs.declared.Kind.TheVariants.{And, Nand, Or, Nor, Xor,
 use Rattle.gate_values.specs.declared.Value.{Value}
 use Rattle.gate_values.specs.declared.Value.TheVariants.{X, Z}
 use Rattle.gate_values.specs.Gates.{allows, is_unary}
-use Rattle.gate_values.proofs.Pins.{allows-one, allows-some}
+use Rattle.gate_values.proofs.Callers.{allows-one, allows-some}
 use Rattle.circuit_meaning.specs.declared.flip_flop.Clock.{Clock}
 use Rattle.circuit_meaning.specs.Edges.{IsClock}
 use Rattle.circuit_meaning.specs.declared.Setting.{Setting}
@@ -28,7 +28,7 @@ use Rattle.timing_file.specs.Timing as timings
 use Rattle.timing_file.specs.Timing.{default_of}
 use Rattle.timing_file.specs.Ranges.{IsTiming, IsDelay, IsWithin}
 use Rattle.timing_file.specs.declared.TimingRow.{TimingRow}
-use Rattle.timing_file.proofs.Within.{default-within}
+use Rattle.timing_file.proofs.Callers.{default-within}
 use Rattle.timing_file.specs.declared.ClockRow.{ClockRow}
 use Rattle.timing_file.specs.declared.TimingWhat.{TimingWhat}
 use Rattle.timing_file.specs.declared.TimingWhat.TheVariants as what

@@ -9,7 +9,7 @@ use Rattle.circuit_meaning.specs.declared.FlipFlop.{FlipFlop}
 use Rattle.circuit_meaning.specs.declared.Setting.{Setting}
 use Rattle.circuit_meaning.specs.Circuit.{Input, Gate, Flop, driver, IsDriver, AreDriverLimits}
 use Rattle.circuit_meaning.specs.Cells.{least_delay}
-use Rattle.circuit_meaning.proofs.Equations.{driver_fits}
+use Rattle.circuit_meaning.proofs.Callers.{driver_fits}
 use Rattle.design.specs.declared.rows.Row.{Row}
 use Rattle.design.specs.declared.rows.Row.TheVariants as row
 use Rattle.design.specs.declared.rows.SignalView.{SignalView as View}

@@ -1,22 +1,23 @@
-pub mod KeptSignals
-pub mod Ordered
-pub mod Answered
-pub mod Pinned
-pub mod Overlap
-pub mod Walked
-pub mod Links
-pub mod Reading
-pub mod Holding
-pub mod Rereads
-pub mod SortedSettings
-pub mod Joining
-pub mod Places
-pub mod Rowed
-pub mod Named
-pub mod Bucketed
-pub mod Finished
-pub mod SettingOrder
-pub mod ChangedSettings
-pub mod Repeats
-pub mod Followed
-pub mod PinWalkLemmas
+mod KeptSignals
+mod Ordered
+mod Answered
+mod Pinned
+mod Overlap
+mod Walked
+mod Links
+mod Reading
+mod Holding
+mod Rereads
+mod SortedSettings
+mod Joining
+mod Places
+mod Rowed
+mod Named
+mod Bucketed
+mod Finished
+mod SettingOrder
+mod ChangedSettings
+mod Repeats
+mod Followed
+mod PinWalkLemmas
+pub mod Callers

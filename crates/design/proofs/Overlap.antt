@@ -7,7 +7,7 @@ use Rattle.std.proofs.lemmas.Simd.{map-map}
 use Rattle.gate_values.specs.declared.Kind.{Kind}
 use Rattle.gate_values.specs.declared.Kind.TheVariants.{Dff}
 use Rattle.gate_values.specs.Gates.{up_to_first, decides}
-use Rattle.gate_values.proofs.Pins.{allows-some}
+use Rattle.gate_values.proofs.Callers.{allows-some}
 use Rattle.valid_intervals.specs.declared.Point.{Point}
 use Rattle.valid_intervals.specs.Spans.{Span, from_to, meet, cut_at}
 use Rattle.circuit_meaning.specs.Edges.{shown_edge}
@@ -18,9 +18,7 @@ use Rattle.circuit_meaning.specs.Forward.{value, seen_value}
 use Rattle.circuit_meaning.specs.Cells.{span, least_delay, looked_pins, pin_span}
 use Rattle.circuit_meaning.specs.Need.{IsEvaluable, HasChildren}
 use Rattle.circuit_meaning.specs.Looks.{kind_of, pin_point, flop_points, pin_points_at, sees, looked_points, no_pin, interval_at, pin_interval, met_interval}
-use Rattle.circuit_meaning.proofs.Cover.{cell-covers}
-use Rattle.circuit_meaning.proofs.Meets.{met-all, gate-span}
-use Rattle.circuit_meaning.proofs.Looking.{cut-sources, cut-take, cut-whole}
+use Rattle.circuit_meaning.proofs.Callers.{cell-covers, met-all, gate-span, cut-sources, cut-take, cut-whole}
 use Rattle.design.specs.declared.rows.SignalView.TheVariants as row
 use Rattle.design.specs.inner.KeptDesigns.{IsViewOf}
 use Rattle.design.specs.KeptDesigns.{pins_with}

@@ -13,7 +13,7 @@ use Rattle.std.proofs.Math.ListN.{get_or-map, length-map}
 use Rattle.gate_values.specs.declared.Value.{Value}
 use Rattle.gate_values.specs.declared.Evaluation.{Evaluation}
 use Rattle.gate_values.specs.Gates.{gate_value, decides, is_unary, up_to_first}
-use Rattle.gate_values.proofs.Pins.{allows-few, allows-one, allows-some}
+use Rattle.gate_values.proofs.Callers.{allows-few, allows-one, allows-some}
 use Rattle.valid_intervals.specs.declared.Point.{Point}
 use Rattle.valid_intervals.specs.Spans.{Span, IsIn, from_to, meet, cut_at}
 use Rattle.circuit_meaning.specs.Edges.{shown_edge}
@@ -23,10 +23,7 @@ use Rattle.circuit_meaning.specs.Forward.{value}
 use Rattle.circuit_meaning.specs.Cells.{span, pin_span, cell_at}
 use Rattle.circuit_meaning.specs.Need.{HasChildren, IsEvaluable}
 use Rattle.circuit_meaning.specs.Looks.{kind_of, pin_point, flop_points, pin_points_at, sees, interval_at, pin_interval, met_interval, no_pin}
-use Rattle.circuit_meaning.proofs.Equations.{driver_fits}
-use Rattle.circuit_meaning.proofs.Steady.{in_meet, pin_span-early, pin_span-late}
-use Rattle.circuit_meaning.proofs.Cover.{cell-covers}
-use Rattle.circuit_meaning.proofs.Looking.{looked-value, cut-take, cut-ends, cut-whole, cut-more}
+use Rattle.circuit_meaning.proofs.Callers.{driver_fits, in_meet, pin_span-early, pin_span-late, cell-covers, looked-value, cut-take, cut-ends, cut-whole, cut-more}
 use Rattle.valid_intervals.specs.declared.Cell.{Cell}
 use Rattle.design.specs.Pins.{pin_at, heard_of}
 use Rattle.design.specs.declared.pin_walk.PinWalk.{PinWalk}

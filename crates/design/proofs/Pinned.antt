@@ -15,8 +15,7 @@ use Rattle.gate_values.specs.declared.Kind.{Kind}
 use Rattle.circuit_meaning.specs.Cells.{span, pin_span}
 use Rattle.circuit_meaning.specs.Need.{IsEvaluable, HasChildren}
 use Rattle.circuit_meaning.specs.Looks.{pin_point, flop_points, pin_points_at, pin_points, no_pin, interval_at, pin_interval}
-use Rattle.circuit_meaning.proofs.EdgeLemmas.{shown_edge-le}
-use Rattle.circuit_meaning.proofs.Cover.{cell-covers}
+use Rattle.circuit_meaning.proofs.Callers.{shown_edge-le, cell-covers}
 use Rattle.design.specs.declared.rows.SignalView.TheVariants as row
 use Rattle.design.specs.inner.KeptDesigns.{IsViewOf}
 use Rattle.design.specs.KeptDesigns.{pins_with}

@@ -9,12 +9,12 @@ use Rattle.gate_values.specs.Gates.{same_value}
 use Rattle.circuit_meaning.specs.declared.Setting.{Setting}
 use Rattle.circuit_meaning.specs.Forward.{later, last_setting, input_value}
 use Rattle.circuit_meaning.specs.Cells.{next_setting, input_start}
-use Rattle.circuit_meaning.proofs.Inputs.{next-here, next-passed, last-steady}
+use Rattle.circuit_meaning.proofs.Callers.{next-here, next-passed, last-steady}
 use Rattle.design.specs.Join.{schedule_of, changes_from, changes_of}
 use Rattle.design.specs.Laws.{RepeatsAreFree, set_value}
 use Rattle.design.proofs.SortedSettings.{Climbs}
 use Rattle.design.proofs.SettingOrder.{order-is-free}
-use Rattle.gate_values.proofs.Same.{same_is}
+use Rattle.gate_values.proofs.Callers.{same_is}
 use Rattle.design.proofs.ChangedSettings.{Alternates, changes-all, changes-climb, changes-alternate, schedule-climbs}
 
 -- what the last setting gives, or else the value before all settings

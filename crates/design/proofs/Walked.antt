@@ -9,7 +9,7 @@ use Rattle.std.proofs.lemmas.List.Folds.{list_any-append}
 use Rattle.std.proofs.lemmas.Map.Views.{list_any-from_Contains, Contains-from_any}
 use Rattle.circuit_meaning.specs.Circuit.{Circuit, driver, read_by}
 use Rattle.circuit_meaning.specs.Need.{IsInCone, Itself, Reads}
-use Rattle.circuit_meaning.proofs.Alike.{cone-step}
+use Rattle.circuit_meaning.proofs.Callers.{cone-step}
 use Rattle.design.specs.inner.Walk.{has, is_marked, Marks}
 
 -- What a walk along these edges keeps, among n signals, from a first one, within a set.

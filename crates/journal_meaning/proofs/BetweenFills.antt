@@ -15,7 +15,7 @@ use Rattle.circuit_meaning.specs.Cells.{cell_at}
 use Rattle.journal_meaning.specs.Replay.{replay, IsLegal, IsLegalTrim}
 use Rattle.journal_meaning.specs.Sections.{Purpose, Asks, Trims, Forces, SectionEntries, IsLegalIn, own_entries, list_of, cells_left, AreLegal, joined_entries}
 use Rattle.journal_meaning.specs.Laws.{OfCircuit}
-use Rattle.valid_intervals.proofs.Same.{same_stored-true, same_stored-itself}
+use Rattle.valid_intervals.proofs.Callers.{same_stored-true, same_stored-itself}
 use Rattle.journal_meaning.proofs.Lists.{Each, Stands, Here, There, stands-front, stands-last, contains_from}
 use Rattle.journal_meaning.proofs.Claims.{Quiet, quiet, still_unclaimed, holder-without, own-covers}
 

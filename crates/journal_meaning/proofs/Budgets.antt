@@ -19,7 +19,7 @@ use Rattle.journal_meaning.specs.Laws.{NoEviction, HasRoom, IsLegalFrom, IsRoomy
 use Rattle.journal_meaning.specs.Sections.{of_batch}
 use Rattle.circuit_meaning.specs.Forward.{wave}
 use Rattle.circuit_meaning.specs.declared.Run.{Run}
-use Rattle.valid_intervals.proofs.Same.{same_point-true, same_point-itself}
+use Rattle.valid_intervals.proofs.Callers.{same_point-true, same_point-itself}
 use Rattle.journal_meaning.proofs.Lists.{Each, Differ, each-append, each-imply, pairs_from, pairs_to}
 use Rattle.journal_meaning.proofs.Claims.{Quiet}
 use Rattle.journal_meaning.proofs.Named.{Needed, Named, all_named}

@@ -4,7 +4,7 @@ use Rattle.std.proofs.lemmas.Bool.{and_from, cases_Bool}
 use Rattle.std.proofs.lemmas.Option.{none-some}
 use Rattle.valid_intervals.specs.declared.Point.{Point}
 use Rattle.circuit_meaning.specs.Circuit.{Circuit, IsCircuit}
-use Rattle.circuit_meaning.proofs.Cover.{cell-covers}
+use Rattle.circuit_meaning.proofs.Callers.{cell-covers}
 use Rattle.journal_meaning.specs.declared.Entry.{Entry}
 use Rattle.journal_meaning.specs.declared.Entry.TheVariants.{Told, Claimed, Filled, Evicted, Dropped, Spent}
 use Rattle.journal_meaning.specs.States.{Claim, State, is_covered, holder, without_point}
@@ -12,7 +12,7 @@ use Rattle.journal_meaning.specs.Table.{Needs, after}
 use Rattle.valid_intervals.specs.Cells.{same_point, covers, cell_for}
 use Rattle.valid_intervals.specs.declared.SignalCell.{SignalCell}
 use Rattle.circuit_meaning.specs.Cells.{cell_at}
-use Rattle.valid_intervals.proofs.Same.{same_point-true, same_point-itself}
+use Rattle.valid_intervals.proofs.Callers.{same_point-true, same_point-itself}
 use Rattle.journal_meaning.proofs.Lists.{Each, Stands, stands-any, test-false}
 
 pub holder-filter : (test : Claim → Bool) (claims : List Claim) (p : Point) → holder claims p ≡ None → holder (filter test claims) p ≡ None

@@ -6,7 +6,7 @@ use Rattle.valid_intervals.specs.declared.Point.{Point}
 use Rattle.journal_meaning.specs.declared.Entry.{Entry}
 use Rattle.valid_intervals.specs.Cells.{same_point}
 use Rattle.journal_meaning.specs.Counts.{points_of, different, repeat_count, evaluations, distinct, again}
-use Rattle.valid_intervals.proofs.Same.{same_point-true, same_point-itself}
+use Rattle.valid_intervals.proofs.Callers.{same_point-true, same_point-itself}
 
 -- the points that are none of the earlier ones
 abbrev new : List Point → List Point → List Point

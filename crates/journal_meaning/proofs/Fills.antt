@@ -15,7 +15,7 @@ use Rattle.journal_meaning.specs.Allowed.{IsAllowed}
 use Rattle.circuit_meaning.specs.Cells.{cell_at}
 use Rattle.journal_meaning.specs.Replay.{IsLegal}
 use Rattle.journal_meaning.specs.Counts.{is_fill_at, fills_at, is_eviction_of, evictions_of}
-use Rattle.valid_intervals.proofs.Same.{same_point-true, same_point-itself}
+use Rattle.valid_intervals.proofs.Callers.{same_point-true, same_point-itself}
 use Rattle.journal_meaning.proofs.Lists.{Stands, Here, test-false}
 use Rattle.journal_meaning.proofs.Claims.{Quiet, quiet, still_unclaimed, holder-without, own-covers}
 use Rattle.journal_meaning.proofs.BetweenFills.{Evicts, stays}

@@ -22,8 +22,8 @@ use Rattle.journal_meaning.specs.Answers.{IsCovered, ChildrenCovered, is_of, las
 use Rattle.journal_meaning.specs.Sections.{of_batch}
 use Rattle.journal_meaning.specs.Grown.{IsSaid, IsFor, is_spent_of, refusals, GrowsBy, IsLonger, AreAdded}
 use Rattle.journal_meaning.specs.Counts.{count, evaluated_point, is_booked, booked_count}
-use Rattle.journal_meaning.specs.inner.Grown.{IsForOther, IsHome, AreHome}
-use Rattle.valid_intervals.proofs.Same.{same_point-true}
+use Rattle.journal_meaning.specs.Listed.{IsForOther, IsHome, AreHome}
+use Rattle.valid_intervals.proofs.Callers.{same_point-true}
 use Rattle.journal_meaning.proofs.Lists.{Each, each-append, each-imply}
 
 -- the first of three options

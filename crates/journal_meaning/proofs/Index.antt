@@ -8,19 +8,19 @@ use Rattle.valid_intervals.specs.declared.Point.{Point}
 use Rattle.valid_intervals.specs.Spans.{Span, IsIn}
 use Rattle.circuit_meaning.specs.Circuit.{Circuit, IsCircuit}
 use Rattle.circuit_meaning.specs.Cells.{span, cell_at}
-use Rattle.circuit_meaning.proofs.Cover.{cell-covers}
+use Rattle.circuit_meaning.proofs.Callers.{cell-covers}
 use Rattle.journal_meaning.proofs.More.{right-within}
 use Rattle.journal_meaning.specs.declared.Entry.{Entry}
 use Rattle.journal_meaning.specs.declared.Entry.TheVariants.{Told, Claimed, Filled, Evicted, Dropped, Spent}
 use Rattle.valid_intervals.specs.Cells.{covers, cell_for, point_cmp}
-use Rattle.valid_intervals.proofs.PointOrder.{same-place, itself, not-behind, signal-up, signal-down, time-up, time-down}
+use Rattle.valid_intervals.proofs.Callers.{same-place, itself, not-behind, signal-up, signal-down, time-up, time-down}
 use Rattle.journal_meaning.specs.Answers.{Says}
 use Rattle.journal_meaning.specs.Sections.{of_batch}
 use Rattle.journal_meaning.specs.Grown.{IsSaid}
-use Rattle.journal_meaning.specs.inner.Grown.{IsRightEntry}
+use Rattle.journal_meaning.specs.Listed.{IsRightEntry}
 use Rattle.journal_meaning.proofs.Lists.{Each, each-imply}
 use Rattle.journal_meaning.specs.Entries.{SaidCell, cell_said}
-use Rattle.journal_meaning.specs.inner.Index.{cells_said, Covers, IsFound, place_of, StandsAt, IsCellIndex}
+use Rattle.journal_meaning.specs.Index.{cells_said, Covers, IsFound, place_of, StandsAt, IsCellIndex}
 
 -- a place between a first place of the signal and a point of the signal
 record IsBetween (low k high : Point) : Type 0 where

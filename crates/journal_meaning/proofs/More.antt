@@ -8,7 +8,7 @@ use Rattle.valid_intervals.specs.declared.Point.{Point}
 use Rattle.valid_intervals.specs.Spans.{Span, IsIn}
 use Rattle.circuit_meaning.specs.Circuit.{Circuit, IsCircuit}
 use Rattle.circuit_meaning.specs.Cells.{span, cell_at}
-use Rattle.circuit_meaning.proofs.Steady.{cell-steady}
+use Rattle.circuit_meaning.proofs.Callers.{cell-steady}
 use Rattle.valid_intervals.specs.declared.SignalCell.{SignalCell}
 use Rattle.journal_meaning.specs.declared.Entry.{Entry}
 use Rattle.journal_meaning.specs.declared.Entry.TheVariants.{Told, Claimed, Filled, Evicted, Dropped, Spent}
@@ -19,7 +19,7 @@ use Rattle.journal_meaning.specs.Batches.{Batch}
 use Rattle.journal_meaning.specs.Allowed.{IsAllowed, IsRight}
 use Rattle.journal_meaning.specs.Counts.{booked_count, is_booked}
 use Rattle.journal_meaning.specs.Replay.{replay, IsLegal}
-use Rattle.valid_intervals.proofs.Same.{same_stored-true, same_stored-itself}
+use Rattle.valid_intervals.proofs.Callers.{same_stored-true, same_stored-itself}
 use Rattle.journal_meaning.proofs.Lists.{Each, Differ, each-filter, differ-front, test-false}
 
 pub replay-more : (s : State) (es : List Entry) (e : Entry) → replay s (es ++ e ∷ []) ≡ after (replay s es) e

@@ -13,7 +13,7 @@ use Rattle.journal_meaning.specs.Allowed.{IsAt, IsAllowed}
 use Rattle.journal_meaning.specs.Replay.{IsLegal, replay}
 use Rattle.journal_meaning.proofs.Lists.{Each, each-filter}
 use Rattle.journal_meaning.proofs.Claims.{holder-each}
-use Rattle.valid_intervals.proofs.Same.{same_point-itself}
+use Rattle.valid_intervals.proofs.Callers.{same_point-itself}
 
 module _ (b : Batch) where
   -- the query with this number needs the point

@@ -15,7 +15,7 @@ use Rattle.journal_meaning.specs.Replay.{IsLegalBatch}
 use Rattle.journal_meaning.proofs.Lists.{contains-one}
 use Rattle.journal_meaning.proofs.Examples.{at, cell, both, first_query, tight, both15, second_query, again, third_query, third}
 use Rattle.circuit_meaning.specs.Circuit.{driver, read_by}
-use Rattle.circuit_meaning.proofs.Points.{needed-in_cone}
+use Rattle.circuit_meaning.proofs.Callers.{needed-in_cone}
 
 -- a claim of a point that a stored cell covers
 told-not-claimed : IsLegalBatch third 0 (record { signal = 1; cell = cell 3 8 One } ∷ []) (Claimed 3 (at 1 3) ∷ Dropped 3 (at 1 3) ∷ []) → ⊥

@@ -17,7 +17,7 @@ use Rattle.journal_meaning.specs.Allowed.{IsAllowed}
 use Rattle.circuit_meaning.specs.Cells.{cell_at}
 use Rattle.journal_meaning.specs.Replay.{IsLegal}
 use Rattle.journal_meaning.specs.Laws.{IsWanted, HasRoom}
-use Rattle.valid_intervals.proofs.Same.{same_stored-true, same_stored-itself}
+use Rattle.valid_intervals.proofs.Callers.{same_stored-true, same_stored-itself}
 use Rattle.journal_meaning.proofs.Lists.{Each, Differ, Stands, Here, There, each-filter, stands-any, stands-left, stands-front, differ-front, front-snoc, snoc_cases, stands-last}
 use Rattle.journal_meaning.proofs.Claims.{Quiet, quiet, still_unclaimed, holder-without, own-covers}
 use Rattle.journal_meaning.proofs.Named.{Ours, ClaimsOurs, names, still_ours}

@@ -8,7 +8,7 @@ use Rattle.journal_meaning.specs.declared.Entry.TheVariants.{Evicted}
 use Rattle.journal_meaning.specs.States.{State, fresh, IsLeastRecent}
 use Rattle.journal_meaning.specs.Table.{after}
 use Rattle.journal_meaning.specs.Replay.{replay, EvictsLast, IsLegalTrim}
-use Rattle.journal_meaning.specs.inner.Trims.{evictions_back, trim_evictions}
+use Rattle.journal_meaning.specs.Trims.{evictions_back, trim_evictions}
 use Rattle.journal_meaning.proofs.Lists.{front-snoc}
 use Rattle.journal_meaning.proofs.More.{replay-more}
 

@@ -10,9 +10,7 @@ use Rattle.circuit_meaning.specs.Cells.{span, span_from, pin_span, looked_pins, 
 use Rattle.circuit_meaning.specs.Laws.{look, Edge}
 use Rattle.circuit_meaning.specs.declared.Window.{Window}
 use Rattle.circuit_meaning.specs.Need.{HasChildren, IsEvaluable, IsRoot, First, Piece, Next, children}
-use Rattle.circuit_meaning.proofs.Cover.{cell-covers}
-use Rattle.circuit_meaning.proofs.Equations.{span_is}
-use Rattle.circuit_meaning.proofs.Steady.{cell-steady, gate_span-early}
+use Rattle.circuit_meaning.proofs.Callers.{cell-covers, span_is, cell-steady, gate_span-early}
 use Rattle.journal_meaning.specs.declared.batch.Query.{Query}
 use Rattle.journal_meaning.specs.declared.Entry.{Entry}
 use Rattle.journal_meaning.specs.declared.Entry.TheVariants.{Told, Claimed, Filled, Evicted, Dropped, Spent}
@@ -23,7 +21,7 @@ use Rattle.journal_meaning.specs.Allowed.{IsAllowed}
 use Rattle.journal_meaning.specs.Replay.{IsLegal}
 use Rattle.journal_meaning.specs.Answers.{Says, IsCovered, ChildrenCovered, IsClosed}
 use Rattle.journal_meaning.specs.Grown.{GrowsBy}
-use Rattle.journal_meaning.specs.inner.Grown.{IsRightEntry, AreTimesCovered}
+use Rattle.journal_meaning.specs.Listed.{IsRightEntry, AreTimesCovered}
 use Rattle.journal_meaning.proofs.Lists.{Each}
 use Rattle.journal_meaning.proofs.Grown.{covered-kept}
 

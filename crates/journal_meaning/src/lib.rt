@@ -18,7 +18,7 @@
 //! - `specs/Laws` holds theorems on every legal journal. They are the contracts of the functions below, which do nothing.
 //!
 //! For code that records and reads entries, `specs/Grown` says what the entries of a batch say, count and name after more of them are
-//! recorded. `specs/inner/Index` defines an index of their cells, and `specs/inner/Trims` the entries of a trim. Lemmas on one more
+//! recorded. `specs/Index` defines an index of their cells, and `specs/Trims` the entries of a trim. Lemmas on one more
 //! entry stand in `proofs/More`.
 //!
 //! An entry is a few numbers, which are copied.
@@ -45,7 +45,6 @@ ghost use Rattle.journal_meaning.specs.Laws.{CountsAdd, AgainAfterEviction, OneF
 mod batch;
 
 pub use batch::{Query, pieces_make_windows};
-
 use valid_intervals::{Cell, Point};
 
 /// What a shard of the memo did. `q` is the number of the query that it served, and `p` the point.

@@ -9,7 +9,7 @@ use Rattle.journal_text.specs.Spelling.{point, cell, line_feed, entry_line}
 use Rattle.journal_text.specs.Written.{IsEntry}
 use Rattle.texts.specs.fields.Reading.{◌>>=◌, after_word, field_at}
 use Rattle.journal_text.specs.inner.Reading.{behind, point_at, cell_at, told_at, claimed_at, filled_at, evicted_at, dropped_at, spent_at, entry_at}
-use Rattle.texts.proofs.FieldLemmas.{bind_some, after_takes, field_takes}
+use Rattle.texts.proofs.Callers.{bind_some, after_takes, field_takes}
 use Rattle.journal_text.proofs.Fields.{point_takes, cell_takes}
 
 -- a word, or what else there may be

@@ -9,8 +9,7 @@ use Rattle.valid_intervals.specs.declared.Point.{Point}
 use Rattle.valid_intervals.specs.Spans.{IsSpan, from_to}
 use Rattle.texts.specs.fields.Spelling.{field}
 use Rattle.texts.specs.fields.Reading.{◌>>=◌, after_word, field_at, value_at}
-use Rattle.texts.proofs.Numbers.{EndsNumber}
-use Rattle.texts.proofs.FieldLemmas.{bind_some, after_takes, field_takes, field_again, value_takes, value_again}
+use Rattle.texts.proofs.Callers.{EndsNumber, bind_some, after_takes, field_takes, field_again, value_takes, value_again}
 use Rattle.journal_text.specs.Spelling.{point, cell}
 use Rattle.journal_text.specs.Written.{IsPoint, IsCell}
 use Rattle.journal_text.specs.inner.Reading.{point_at, cell_at}

@@ -1,5 +1,6 @@
-pub mod Fields
-pub mod Entries
-pub mod Lines
-pub mod Shards
-pub mod WholeSections
+mod Fields
+mod Entries
+mod Lines
+mod Shards
+mod WholeSections
+pub mod Callers

@@ -8,8 +8,7 @@ use Rattle.texts.specs.fields.Spelling.{field, IsNumber}
 use Rattle.journal_text.specs.Spelling.{point, cell, line_feed, entry_line}
 use Rattle.journal_text.specs.Written.{IsPoint, IsCell, IsEntry}
 use Rattle.journal_text.specs.inner.Reading.{told_at, claimed_at, filled_at, evicted_at, dropped_at, spent_at, entry_at}
-use Rattle.texts.proofs.FieldLemmas.{field_again}
-use Rattle.texts.proofs.Items.{AreSpelled}
+use Rattle.texts.proofs.Callers.{field_again, AreSpelled}
 use Rattle.journal_text.proofs.Fields.{point_again, cell_again}
 use Rattle.journal_text.proofs.Entries.{entry_takes}
 

@@ -10,9 +10,8 @@ use Rattle.journal_text.specs.Spelling.{line_feed, entry_line, shard_lines}
 use Rattle.journal_text.specs.Written.{IsEntry}
 use Rattle.texts.specs.fields.Reading.{◌>>=◌, after_word, field_at}
 use Rattle.journal_text.specs.inner.Reading.{behind, entry_at, entries_at, shard_at, shards_at}
-use Rattle.texts.proofs.FieldLemmas.{bind_some, after_takes, field_takes, field_again}
+use Rattle.texts.proofs.Callers.{bind_some, after_takes, field_takes, field_again, AreRead, items_take, items_again}
 use Rattle.journal_text.proofs.Entries.{behind_some}
-use Rattle.texts.proofs.Items.{AreRead, items_take, items_again}
 use Rattle.journal_text.proofs.Lines.{spelling}
 
 shard_takes : (i : ℕ) (text : List ℕ) (es : List Entry) (rest : List ℕ) → shard_at i text ≡ Some (es, rest) → (text ≡ field i ++ (line_feed ++ (flat_map entry_line es ++ rest))) × AllByRecursion IsEntry es

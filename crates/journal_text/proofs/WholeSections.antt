@@ -14,7 +14,7 @@ use Rattle.journal_text.specs.Spelling.{line_feed, shard_lines, kind_word, secti
 use Rattle.journal_text.specs.Written.{IsNumbered, IsSection, most_shards}
 use Rattle.texts.specs.fields.Reading.{◌>>=◌, after_word, field_at}
 use Rattle.journal_text.specs.inner.Reading.{entry_at, shards_at, kind_at, section_at}
-use Rattle.texts.proofs.FieldLemmas.{bind_some, after_takes, field_takes, field_again}
+use Rattle.texts.proofs.Callers.{bind_some, after_takes, field_takes, field_again}
 use Rattle.journal_text.proofs.Entries.{behind_some}
 use Rattle.journal_text.proofs.Shards.{shards_takes, shards_again}
 

@@ -4,15 +4,12 @@ use Rattle.std.proofs.lemmas.Bool.{cases_lt}
 use Rattle.valid_intervals.specs.declared.Point.{Point}
 use Rattle.circuit_meaning.specs.declared.Window.{Window}
 use Rattle.circuit_meaning.specs.Circuit.{Circuit}
-use Rattle.circuit_meaning.proofs.Roots.{needed-before}
+use Rattle.circuit_meaning.proofs.Callers.{needed-before}
 use Rattle.journal_meaning.specs.Batches.{Batch, IsNeededBy, OfQuery, window_of}
 use Rattle.journal_meaning.specs.Lawful.{IsLawful}
 use Rattle.plan_machine.specs.declared.strand.Next.TheVariants.{Ask, Done}
 use Rattle.plan_machine.specs.Strands.{Frame, Strand, IsStrand, IsOnStack, roots_from, next, next_in, ask_or}
-use Rattle.plan_machine.proofs.Stacks.{asks-first, first-askable}
-use Rattle.plan_machine.proofs.Started.{query-within}
-use Rattle.plan_machine.proofs.Wanted.{asks-needed, held-within}
-use Rattle.plan_machine.proofs.Shards.{claims-within}
+use Rattle.plan_machine.proofs.Callers.{asks-first, first-askable, query-within, asks-needed, held-within, claims-within}
 use Rattle.demand_points.specs.Demands.{Demand, IsKnownStrand, roots_left}
 
 no-window : (c : Circuit) (w : Window) (root : ℕ) → w.stop ≤ root → roots_left c w root ≡ []

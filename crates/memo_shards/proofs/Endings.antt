@@ -15,16 +15,15 @@ use Rattle.journal_meaning.specs.States.{holder}
 use Rattle.journal_meaning.specs.Batches.{Batch, OfQuery}
 use Rattle.journal_meaning.specs.Allowed.{IsRight}
 use Rattle.circuit_meaning.specs.Cells.{cell_at}
-use Rattle.journal_meaning.proofs.Claims.{holder-ended}
-use Rattle.valid_intervals.proofs.Same.{same_stored-itself}
-use Rattle.journal_meaning.proofs.More.{right-answers}
+use Rattle.journal_meaning.proofs.Callers.{holder-ended, right-answers}
+use Rattle.valid_intervals.proofs.Callers.{same_stored-itself}
 use Rattle.circuit_meaning.specs.Circuit.{Circuit, IsCircuit}
 use Rattle.plan_machine.specs.Strands.{next, next_in}
 use Rattle.plan_machine.specs.declared.strand.Next.TheVariants.{Ask}
 use Rattle.plan_machine.specs.Shards.{Shard, IsShard, shard_with_entry, shard_without_cell, with_room, filled_shard}
-use Rattle.plan_machine.proofs.Shards.{spent-shard, dropped-shard, filled-keeps, filled-claims}
+use Rattle.plan_machine.proofs.Callers.{spent-shard, dropped-shard, filled-keeps, filled-claims}
 use Rattle.claim_waiters.specs.Claims.{WaitedClaim, Claims, IsInOrder, claim_at, holder_in, waiting_in, waiters_of, waiters_at, without_claim}
-use Rattle.claim_waiters.proofs.Tables as tables
+use Rattle.claim_waiters.proofs.Callers as tables
 use Rattle.demand_points.specs.Demands as demands
 use Rattle.demand_points.specs.Demands.{Demand, IsAskedCell}
 use Rattle.memo_shards.specs.KeptShards.{shard_at}

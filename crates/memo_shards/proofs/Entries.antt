@@ -14,18 +14,15 @@ use Rattle.journal_meaning.specs.States.{State, fresh, holder}
 use Rattle.journal_meaning.specs.Batches.{Batch}
 use Rattle.journal_meaning.specs.Allowed.{IsAt, IsRight}
 use Rattle.circuit_meaning.specs.Cells.{cell_at}
-use Rattle.journal_meaning.proofs.Lists.{each-stands, each-append}
-use Rattle.journal_meaning.proofs.Claims.{holder-claimed}
-use Rattle.journal_meaning.proofs.Named.{Ours, claim_ours}
-use Rattle.journal_meaning.proofs.More.{right-answers}
+use Rattle.journal_meaning.proofs.Callers.{each-stands, each-append, holder-claimed, Ours, claim_ours, right-answers}
 use Rattle.journal_meaning.specs.Lawful.{IsLawful}
 use Rattle.plan_machine.specs.Strands.{next}
 use Rattle.plan_machine.specs.declared.strand.Next.TheVariants.{Ask}
 use Rattle.plan_machine.specs.Shards.{Shard, IsShard, shard_with_entry}
-use Rattle.plan_machine.proofs.Shards.{found, told-keeps, claimed-shard}
+use Rattle.plan_machine.proofs.Callers.{found, told-keeps, claimed-shard}
 use Rattle.claim_waiters.specs.Claims.{WaitedClaim, Claims, IsInOrder, claim_at, holder_in, with_claim, with_waiter, waiters_at}
-use Rattle.valid_intervals.proofs.Same.{same_point-itself}
-use Rattle.claim_waiters.proofs.Tables as tables
+use Rattle.valid_intervals.proofs.Callers.{same_point-itself}
+use Rattle.claim_waiters.proofs.Callers as tables
 use Rattle.demand_points.specs.Demands as demands
 use Rattle.demand_points.specs.Demands.{Demand}
 use Rattle.memo_shards.specs.KeptShards.{KeptShard, shard_at, IsWaiting, IsKnownShard}

@@ -13,11 +13,10 @@ use Rattle.journal_meaning.specs.declared.Entry.TheVariants as entry
 use Rattle.journal_meaning.specs.States as states
 use Rattle.journal_meaning.specs.States.{fresh, holder}
 use Rattle.journal_meaning.specs.Batches.{Batch}
-use Rattle.journal_meaning.proofs.Claims.{no-claims}
-use Rattle.journal_meaning.proofs.More.{replay-more}
+use Rattle.journal_meaning.proofs.Callers.{no-claims, replay-more}
 use Rattle.claim_waiters.specs.Claims.{WaitedClaim, Claims, IsInOrder, claim_at, holder_in, first_of, without_claim}
-use Rattle.valid_intervals.proofs.Same.{same_point-itself}
-use Rattle.claim_waiters.proofs.Tables.{at-same}
+use Rattle.valid_intervals.proofs.Callers.{same_point-itself}
+use Rattle.claim_waiters.proofs.Callers.{at-same}
 use Rattle.demand_points.specs.Demands.{Demand}
 use Rattle.memo_shards.specs.KeptShards.{shard_at}
 use Rattle.memo_shards.specs.inner.KeptShards.{waits_in}

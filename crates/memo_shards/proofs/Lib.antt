@@ -1,7 +1,8 @@
-pub mod Asking
-pub mod Waits
-pub mod Entries
-pub mod Hearing
-pub mod Freed
-pub mod Endings
-pub mod Seen
+mod Asking
+mod Waits
+mod Entries
+mod Hearing
+mod Freed
+mod Endings
+mod Seen
+pub mod Callers

@@ -4,16 +4,16 @@ use Rattle.std.specs.List.{AllByRecursion, AllZip}
 use Rattle.valid_intervals.specs.declared.Point.{Point}
 use Rattle.valid_intervals.specs.Cells.{same_point}
 use Rattle.journal_meaning.specs.Batches.{Batch}
-use Rattle.journal_meaning.proofs.Claims.{cases_point}
+use Rattle.journal_meaning.proofs.Callers.{cases_point}
 use Rattle.plan_machine.specs.Strands.{Strand}
-use Rattle.plan_machine.specs.inner.Parts.{NumberedStrand}
-use Rattle.plan_machine.specs.inner.KeptPlans as plans
-use Rattle.plan_machine.specs.inner.KeptPlans.{Parked}
+use Rattle.plan_machine.specs.Parts.{NumberedStrand}
+use Rattle.plan_machine.specs.KeptPlans as plans
+use Rattle.plan_machine.specs.KeptPlans.{Parked}
 use Rattle.demand_points.specs.Demands.{Demand, TakesStep}
 use Rattle.memo_shards.specs.KeptShards.{Waiting, KeptShard, IsWaiting, IsKnownShard, waiting_at}
 use Rattle.memo_shards.specs.Asks.{WaitsThere}
 use Rattle.memo_shards.specs.Ends.{LeavesNone}
-use Rattle.memo_shards.specs.inner.Seen.{numbered_strand, parked_of, waited_shard}
+use Rattle.memo_shards.specs.Seen.{numbered_strand, parked_of, waited_shard}
 
 -- those that wait at a point
 pub waiting-seen : (ws : List Waiting) (p : Point) → plans.waiting_at (map parked_of ws) p ≡ map numbered_strand (waiting_at ws p)

@@ -12,8 +12,8 @@ use Rattle.std.proofs.lemmas.Map.Keys.{sorted_head, sorted_tail}
 use Rattle.valid_intervals.specs.declared.Point.{Point}
 use Rattle.valid_intervals.specs.Cells.{same_point, point_cmp}
 use Rattle.claim_waiters.specs.Claims.{Claims, IsInOrder, claim_at, waiters_at, with_claim, add_waiter}
-use Rattle.valid_intervals.proofs.Same.{same_point-true, same_point-itself}
-use Rattle.claim_waiters.proofs.Tables.{at-same, at-back}
+use Rattle.valid_intervals.proofs.Callers.{same_point-true, same_point-itself}
+use Rattle.claim_waiters.proofs.Callers.{at-same, at-back}
 use Rattle.demand_points.specs.Demands.{Demand}
 use Rattle.memo_shards.specs.KeptShards.{Waiting, waiting_at}
 use Rattle.memo_shards.specs.inner.KeptShards.{waits_for, waits_in}

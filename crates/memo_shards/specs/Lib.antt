@@ -4,3 +4,4 @@ pub mod Ends
 pub mod Steps
 pub mod Grants
 pub mod inner
+pub mod Seen

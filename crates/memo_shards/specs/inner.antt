@@ -1,5 +1,4 @@
 pub mod Ends
 pub mod Grants
 pub mod KeptShards
-pub mod Seen
 pub mod View

@@ -19,7 +19,7 @@ use Rattle.journal_meaning.specs.Batches.{Batch}
 use Rattle.plan_machine.specs.declared.strand.Next.{Next}
 use Rattle.plan_machine.specs.declared.strand.Next.TheVariants.{Ask, Fill, Drop, Done}
 use Rattle.plan_machine.specs.Strands.{Frame, Strand, roots_from, is_evaluable, next_in, next, after_answer, after_claim, given_up, after_drop, after_fill, IsOnStack}
-use Rattle.plan_machine.proofs.Stacks.{asks-first, asks-unspent, fill-top, drop-top, top-held, earlier}
+use Rattle.plan_machine.proofs.Callers.{asks-first, asks-unspent, fill-top, drop-top, top-held, earlier, IsTurn, told-turn, claimed-turn, spent-turn, filled-turn, dropped-turn, done-turn, set-here, set-other, map-get, booked-filled, turn-sound}
 use Rattle.plan_machine.specs.Shards.{Shard, shard_with_entry, filled_shard}
 use Rattle.plan_machine.specs.Plans.{Plan, no_shard, home, shard_of, claim_of}
 use Rattle.plan_machine.specs.declared.Turned.{Turned}
@@ -28,11 +28,7 @@ use Rattle.plan_machine.specs.Steps as steps
 use Rattle.plan_machine.specs.Steps.{Step, turned_by, turn_outcome}
 use Rattle.plan_machine.specs.Turns.{plan_after, turn}
 use Rattle.plan_machine.specs.Sound.{IsSound}
-use Rattle.plan_machine.proofs.Facts.{IsTurn, told-turn, claimed-turn, spent-turn, filled-turn, dropped-turn, done-turn}
-use Rattle.plan_machine.proofs.Links.{set-here, set-other, map-get}
-use Rattle.plan_machine.proofs.Shards.{booked-filled}
-use Rattle.plan_machine.proofs.Turns.{turn-sound}
-use Rattle.journal_meaning.proofs.More.{booked-append}
+use Rattle.journal_meaning.proofs.Callers.{booked-append}
 use Rattle.demand_points.specs.declared.strand.Task.{Task}
 use Rattle.demand_points.specs.Demands as demands
 use Rattle.demand_points.specs.Demands.{Demand, IsKnownStrand, TakesStep, roots_left}

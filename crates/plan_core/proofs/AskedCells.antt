@@ -6,7 +6,7 @@ use Rattle.valid_intervals.specs.declared.SignalCell.{SignalCell}
 use Rattle.journal_meaning.specs.declared.Entry.{Entry}
 use Rattle.journal_meaning.specs.declared.Entry.TheVariants.{Filled}
 use Rattle.journal_meaning.specs.Answers.{IsCovered}
-use Rattle.journal_meaning.proofs.Grown.{added-none}
+use Rattle.journal_meaning.proofs.Callers.{added-none}
 use Rattle.journal_meaning.specs.declared.batch.Query.{Query}
 use Rattle.journal_meaning.specs.Batches.{Batch}
 use Rattle.journal_meaning.specs.Lawful.{IsLawful}
@@ -15,14 +15,13 @@ use Rattle.plan_machine.specs.Strands.{roots_from}
 use Rattle.plan_machine.specs.Shards.{Shard}
 use Rattle.plan_machine.specs.Alone.{roots_of, IsOutcome}
 use Rattle.plan_machine.specs.Settle.{journals_of, entries_in}
-use Rattle.plan_machine.specs.inner.Settle.{AskedAlone, IsStanding, IsAskedFor, Reaches}
-use Rattle.plan_machine.proofs.Settle.{one-root, asked-reaches}
-use Rattle.plan_machine.proofs.Underway.{contains-none}
+use Rattle.plan_machine.specs.Standings.{AskedAlone, IsStanding, IsAskedFor, Reaches}
+use Rattle.plan_machine.proofs.Callers.{one-root, asked-reaches, contains-none}
 use Rattle.memo_shards.specs.KeptShards.{KeptShard}
 use Rattle.plan_core.specs.Parts.{shards_in}
 use Rattle.plan_core.specs.asked.Memos.{IsChargedMemo, entries_of, asked_at, at_time}
 use Rattle.plan_core.specs.asked.Asked.{HasAsked}
-use Rattle.plan_core.specs.asked.inner.Standings.{live, standing}
+use Rattle.plan_core.specs.asked.Standings.{live, standing}
 
 module _ (b : Batch) (opening : ℕ → List SignalCell) where
   -- a strand ran alone

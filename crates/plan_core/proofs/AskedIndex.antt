@@ -4,15 +4,15 @@ use Rattle.std.proofs.lemmas.List.Elements.{All-contains, All-weaker, All-contai
 use Rattle.journal_meaning.specs.declared.Entry.TheVariants.{Told, Claimed, Filled, Evicted, Dropped, Spent}
 use Rattle.circuit_meaning.specs.Cells.{cell_at}
 use Rattle.journal_meaning.specs.Counts.{count}
-use Rattle.plan_machine.proofs.Underway.{contains-cases, contains-none}
+use Rattle.plan_machine.proofs.Callers.{contains-cases, contains-none}
 use Rattle.std.proofs.lemmas.List.{take_more}
 use Rattle.circuit_meaning.specs.Circuit.{Circuit}
 use Rattle.valid_intervals.specs.declared.Cell.{Cell}
 use Rattle.valid_intervals.specs.declared.Point.{Point}
 use Rattle.journal_meaning.specs.declared.Entry.{Entry}
 use Rattle.journal_meaning.specs.Entries.{SaidCell, cell_said}
-use Rattle.journal_meaning.specs.inner.Index.{cells_said, place_of, IsCellIndex}
-use Rattle.journal_meaning.proofs.Index.{said-append}
+use Rattle.journal_meaning.specs.Index.{cells_said, place_of, IsCellIndex}
+use Rattle.journal_meaning.proofs.Callers.{said-append}
 
 module _ (c : Circuit) (index : Point → Option Cell) where
   -- one entry more

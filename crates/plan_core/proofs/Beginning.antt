@@ -12,15 +12,15 @@ use Rattle.plan_machine.specs.Strands.{Strand, started_strand, IsOnStack, IsStra
 use Rattle.journal_meaning.specs.Pieces.{Start}
 use Rattle.plan_machine.specs.Shards.{Shard, IsShard}
 use Rattle.plan_machine.specs.Plans.{Plan, no_shard, claim_of}
-use Rattle.plan_machine.specs.inner.Parts.{NumberedStrand, IsAmong, strands_from}
-use Rattle.plan_machine.specs.inner.KeptPlans as kept
-use Rattle.plan_machine.specs.inner.KeptPlans.{WaitedShard, Parked, no_waited_shard, all_waiters, shards_of, plan_of, IsKeptPlan}
+use Rattle.plan_machine.specs.Parts.{NumberedStrand, IsAmong, strands_from}
+use Rattle.plan_machine.specs.KeptPlans as kept
+use Rattle.plan_machine.specs.KeptPlans.{WaitedShard, Parked, no_waited_shard, all_waiters, shards_of, plan_of, IsKeptPlan}
 use Rattle.plan_machine.specs.Sound.{IsSound}
 use Rattle.plan_machine.specs.Laws.{BeginsAlone}
-use Rattle.plan_machine.proofs.Links.{map-get}
+use Rattle.plan_machine.proofs.Callers.{map-get}
 use Rattle.demand_points.specs.Demands.{Demand, TakesStep, itself}
 use Rattle.memo_shards.specs.KeptShards.{Waiting, KeptShard, IsWaiting, IsKnownShard}
-use Rattle.memo_shards.specs.inner.Seen.{numbered_strand, waited_shard, parked_of}
+use Rattle.memo_shards.specs.Seen.{numbered_strand, waited_shard, parked_of}
 use Rattle.plan_core.specs.inner.Places.{seats, tag, tags, tag_of}
 use Rattle.plan_core.specs.inner.Parts.{blank, waited_shards, plan_at, IsPlan}
 use Rattle.plan_core.specs.Parts.{AreFreshStrands, AreFree, shards_in, strands_in, plan_of_new}

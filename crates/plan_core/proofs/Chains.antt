@@ -9,7 +9,7 @@ use Rattle.std.proofs.lemmas.Nat.{and_le_r, pow_pos}
 use Rattle.valid_intervals.specs.declared.Point.{Point}
 use Rattle.journal_meaning.specs.declared.Entry.{Entry}
 use Rattle.journal_meaning.specs.Entries.{SaidCell, cell_said}
-use Rattle.journal_meaning.proofs.Lists.{Each, each-imply}
+use Rattle.journal_meaning.proofs.Callers.{Each, each-imply}
 use Rattle.plan_core.specs.declared.asked.places.Noted.{Noted}
 use Rattle.plan_core.specs.asked.Wanted.{Marked, is_wanted}
 use Rattle.plan_core.specs.asked.inner.Places.{point_of, point_at, points_of, numbers_before, chain_of, IsChain, HasPoint, LacksPoint, IsOfChain, IsChainOf, IsUnsaid, HasNoted, AreLinked, AreEnough, ArePlaces}

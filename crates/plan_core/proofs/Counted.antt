@@ -8,13 +8,12 @@ use Rattle.journal_meaning.specs.declared.Entry.{Entry}
 use Rattle.journal_meaning.specs.declared.Entry.TheVariants.{Told, Claimed, Filled, Evicted, Dropped, Spent}
 use Rattle.journal_meaning.specs.Answers.{is_fill_of, fill_count}
 use Rattle.journal_meaning.specs.Counts.{evaluated_point}
-use Rattle.journal_meaning.proofs.Grown.{count-none, fills-none, filled-more}
-use Rattle.journal_meaning.proofs.Lists.{each-imply}
+use Rattle.journal_meaning.proofs.Callers.{count-none, fills-none, filled-more, each-imply}
 use Rattle.journal_meaning.specs.Batches.{Batch}
 use Rattle.journal_meaning.specs.Lawful.{IsLawful}
-use Rattle.plan_machine.specs.inner.Settle.{IsDrop}
+use Rattle.plan_machine.specs.Standings.{IsDrop}
 use Rattle.plan_machine.specs.Settle.{AreShards, AreFreed}
-use Rattle.plan_machine.proofs.Freed.{all-freed}
+use Rattle.plan_machine.proofs.Callers.{all-freed}
 use Rattle.memo_shards.specs.KeptShards.{KeptShard}
 use Rattle.plan_core.specs.Parts.{shards_in}
 use Rattle.plan_core.specs.asked.Memos.{entries_of}

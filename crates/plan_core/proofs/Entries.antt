@@ -2,12 +2,11 @@
 use Rattle.std.proofs.Common.{◌≡◌, ℕ, zero, suc, ◌+◌, ◌<◌, Bool, List, [], ◌∷◌, ◌++◌, length, get_or, take, drop, refl, sym, ap, subst, ◌∙◌, arith, inl, inr, append_assoc, append-nil}
 use Rattle.std.proofs.lemmas.List.Elements.{Contains-append_left, Contains-append_right, Contains-append_cases}
 use Rattle.std.proofs.Math.Seq.{drop-append_seam}
-use Rattle.design.proofs.Rereads.{taken-at}
+use Rattle.design.proofs.Callers.{taken-at}
 use Rattle.journal_meaning.specs.declared.Entry.{Entry}
 use Rattle.journal_meaning.specs.Answers.{is_fill_of, fill_count}
 use Rattle.journal_meaning.specs.Counts.{count}
-use Rattle.journal_meaning.proofs.Grown.{count-append}
-use Rattle.journal_meaning.proofs.Lists.{Each, each-left, each-right}
+use Rattle.journal_meaning.proofs.Callers.{count-append, Each, each-left, each-right}
 use Rattle.plan_machine.specs.Shards.{Shard}
 use Rattle.plan_machine.specs.Settle.{journals_of}
 use Rattle.memo_shards.specs.KeptShards.{KeptShard}

@@ -6,12 +6,12 @@ use Rattle.valid_intervals.specs.declared.Point.{Point}
 use Rattle.valid_intervals.specs.Spans.{Span, IsIn}
 use Rattle.circuit_meaning.specs.Circuit.{Circuit}
 use Rattle.circuit_meaning.specs.Cells.{span, cell_at}
-use Rattle.circuit_meaning.proofs.Cover.{cell-covers}
+use Rattle.circuit_meaning.proofs.Callers.{cell-covers}
 use Rattle.journal_meaning.specs.declared.Entry.{Entry}
 use Rattle.journal_meaning.specs.declared.Entry.TheVariants.{Told, Claimed, Filled, Evicted, Dropped, Spent}
-use Rattle.journal_meaning.specs.inner.Grown.{IsRightEntry}
+use Rattle.journal_meaning.specs.Listed.{IsRightEntry}
 use Rattle.journal_meaning.specs.Entries.{SaidCell, cell_said}
-use Rattle.journal_meaning.specs.inner.Index.{cells_said, IsFound}
+use Rattle.journal_meaning.specs.Index.{cells_said, IsFound}
 use Rattle.journal_meaning.specs.Batches.{Batch}
 use Rattle.journal_meaning.specs.Lawful.{IsLawful}
 use Rattle.memo_shards.specs.KeptShards.{KeptShard}

@@ -13,14 +13,13 @@ use Rattle.valid_intervals.specs.declared.SignalCell.{SignalCell}
 use Rattle.journal_meaning.specs.declared.Entry.TheVariants.{Dropped}
 use Rattle.journal_meaning.specs.States.{Claim, holder}
 use Rattle.journal_meaning.specs.Batches.{Batch}
-use Rattle.journal_meaning.proofs.Lists.{Each, each-imply}
-use Rattle.journal_meaning.proofs.Claims.{holder-each, claim-here, claim-other}
+use Rattle.journal_meaning.proofs.Callers.{Each, each-imply, holder-each, claim-here, claim-other}
 use Rattle.journal_meaning.specs.Lawful.{IsLawful}
 use Rattle.plan_machine.specs.Shards.{Shard, IsShard, shard_with_entry}
 use Rattle.plan_machine.specs.Plans.{no_shard}
 use Rattle.plan_machine.specs.Sound.{IsFresh}
 use Rattle.plan_machine.specs.Settle.{AreShards, AreFreed, IsOrder, drop_of, shard_without}
-use Rattle.plan_machine.proofs.Freed.{all-freed}
+use Rattle.plan_machine.proofs.Callers.{all-freed}
 use Rattle.valid_intervals.specs.Cells.{point_cmp}
 use Rattle.memo_shards.specs.KeptShards.{KeptShard, IsKnownShard}
 use Rattle.memo_shards.specs.Ends.{FreesAll, recorded_all}

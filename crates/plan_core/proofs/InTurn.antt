@@ -10,8 +10,7 @@ use Rattle.circuit_meaning.specs.Circuit.{Circuit}
 use Rattle.circuit_meaning.specs.Cells.{span}
 use Rattle.journal_meaning.specs.States.{fresh, holder}
 use Rattle.journal_meaning.specs.Replay.{replay}
-use Rattle.journal_meaning.proofs.Named.{claims_ours, none_ours}
-use Rattle.journal_meaning.proofs.Grown.{children-kept}
+use Rattle.journal_meaning.proofs.Callers.{claims_ours, none_ours, children-kept}
 use Rattle.journal_meaning.specs.Batches.{Batch}
 use Rattle.journal_meaning.specs.Lawful.{IsLawful}
 use Rattle.journal_meaning.specs.Pieces.{Start}
@@ -27,10 +26,7 @@ use Rattle.plan_machine.specs.Laws.{BeginsAlone}
 use Rattle.plan_machine.specs.Alone.{RunsAlone, RanAlone}
 use Rattle.plan_machine.specs.Settle.{entries_in}
 use Rattle.plan_machine.specs.Sound.{IsSound, IsFresh}
-use Rattle.plan_machine.proofs.Measure.{turn-less}
-use Rattle.plan_machine.proofs.Ready.{has-ended}
-use Rattle.plan_machine.proofs.Alone.{turns-alone}
-use Rattle.plan_machine.proofs.AloneRuns.{alone-start}
+use Rattle.plan_machine.proofs.Callers.{turn-less, has-ended, turns-alone, alone-start, map-get, set-here, set-other}
 use Rattle.demand_points.specs.declared.strand.Task.{Task}
 use Rattle.demand_points.specs.Demands.{Demand, IsKnownStrand}
 use Rattle.memo_shards.specs.KeptShards.{KeptShard, IsKnownShard}
@@ -39,7 +35,6 @@ use Rattle.plan_core.specs.InTurn.{AllChildrenCovered, HasRun, IsUnused, booked_
 use Rattle.plan_core.specs.inner.InTurn.{IsAlone, KeepsTask, MakesTurn, TakesOne, IsWithin, IsRunning, AreRun, HaveHeard}
 use Rattle.plan_core.proofs.AloneTurns.{keeps-more}
 use Rattle.plan_core.proofs.Rounds.{moved}
-use Rattle.plan_machine.proofs.Links.{map-get, set-here, set-other}
 use Rattle.plan_core.proofs.Lists.{some-at}
 use Rattle.plan_core.proofs.Beginning.{all-at, each-known}
 use Rattle.journal_meaning.specs.declared.Entry.{Entry}

@@ -6,20 +6,18 @@ use Rattle.valid_intervals.specs.declared.Point.{Point}
 use Rattle.valid_intervals.specs.declared.SignalCell.{SignalCell}
 use Rattle.circuit_meaning.specs.Forced.{forced_circuit}
 use Rattle.circuit_meaning.specs.Need.{HasChildren, IsEvaluable}
-use Rattle.circuit_meaning.proofs.Alike.{free-alike}
+use Rattle.circuit_meaning.proofs.Callers.{free-alike}
 use Rattle.journal_meaning.specs.declared.Entry.{Entry}
 use Rattle.journal_meaning.specs.declared.Entry.TheVariants.{Filled}
 use Rattle.journal_meaning.specs.States.{fresh}
-use Rattle.journal_meaning.specs.inner.Grown.{IsRightEntry}
-use Rattle.journal_meaning.proofs.Windows.{right-entries}
-use Rattle.journal_meaning.proofs.Named.{filled_needed}
+use Rattle.journal_meaning.specs.Listed.{IsRightEntry}
+use Rattle.journal_meaning.proofs.Callers.{right-entries, filled_needed}
 use Rattle.journal_meaning.specs.declared.batch.Query.{Query}
 use Rattle.journal_meaning.specs.Batches.{Batch, NeedOf, Site, window_of}
 use Rattle.journal_meaning.specs.Lawful.{IsLawful}
 use Rattle.memo_shards.specs.KeptShards.{KeptShard, IsKnownShard}
 use Rattle.design.specs.PinWalks.{IsPoint}
-use Rattle.plan_machine.proofs.Underway.{each-contains}
-use Rattle.plan_machine.proofs.Settle.{evaluable-signal}
+use Rattle.plan_machine.proofs.Callers.{each-contains, evaluable-signal}
 use Rattle.plan_core.specs.asked.Memos.{entries_of}
 use Rattle.plan_core.proofs.Pins.{needed-evaluable}
 

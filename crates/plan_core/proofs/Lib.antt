@@ -1,24 +1,25 @@
-pub mod Lists
-pub mod Seen
-pub mod Stepping
-pub mod Resting
-pub mod Beginning
-pub mod Refusing
-pub mod Rounds
-pub mod AloneTurns
-pub mod InTurn
-pub mod AskedLists
-pub mod AskedIndex
-pub mod Entries
-pub mod RunsAlone
-pub mod AskedCells
-pub mod Freeing
-pub mod Unused
-pub mod Exact
-pub mod Chains
-pub mod Marks
-pub mod AskedPairs
-pub mod Asking
-pub mod Pins
-pub mod Known
-pub mod Counted
+mod Lists
+mod Seen
+mod Stepping
+mod Resting
+mod Beginning
+mod Refusing
+mod Rounds
+mod AloneTurns
+mod InTurn
+mod AskedLists
+mod AskedIndex
+mod Entries
+mod RunsAlone
+mod AskedCells
+mod Freeing
+mod Unused
+mod Exact
+mod Chains
+mod Marks
+mod AskedPairs
+mod Asking
+mod Pins
+mod Known
+mod Counted
+pub mod Callers

@@ -5,12 +5,11 @@ use Rattle.std.proofs.lemmas.List.{map-set}
 use Rattle.std.proofs.lemmas.Bool.{cases_eq}
 use Rattle.plan_machine.specs.Strands.{Strand}
 use Rattle.plan_machine.specs.Plans.{itself}
-use Rattle.plan_machine.specs.inner.Parts.{NumberedStrand, IsAmong, put_back}
-use Rattle.plan_machine.proofs.Links.{set-here, set-other}
-use Rattle.plan_machine.proofs.Parts.{set-low}
+use Rattle.plan_machine.specs.Parts.{NumberedStrand, IsAmong, put_back}
+use Rattle.plan_machine.proofs.Callers.{set-here, set-other, set-low}
 use Rattle.demand_points.specs.Demands.{Demand, TakesStep}
-use Rattle.memo_shards.specs.inner.Seen.{numbered_strand}
-use Rattle.memo_shards.proofs.Seen.{changed}
+use Rattle.memo_shards.specs.Seen.{numbered_strand}
+use Rattle.memo_shards.proofs.Callers.{changed}
 use Rattle.plan_core.specs.inner.Places.{seat, seats, AreNumbered, HaveNumbers}
 
 pub set-same : {A : Type 0} (xs : List A) (n : ℕ) (a : A) → slice_get xs n ≡ Some a → slice_set xs n a ≡ xs

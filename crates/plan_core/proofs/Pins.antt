@@ -6,12 +6,12 @@ use Rattle.circuit_meaning.specs.Circuit.{Circuit}
 use Rattle.circuit_meaning.specs.declared.Window.{Window}
 use Rattle.circuit_meaning.specs.Need.{IsEvaluable, IsNeeded, Root, Child, children}
 use Rattle.circuit_meaning.specs.Looks.{somes}
-use Rattle.circuit_meaning.proofs.Looking.{children-somes}
+use Rattle.circuit_meaning.proofs.Callers.{children-somes}
 use Rattle.journal_meaning.specs.declared.Entry.{Entry}
 use Rattle.journal_meaning.specs.Answers.{IsCovered}
-use Rattle.journal_meaning.proofs.Lists.{Each}
+use Rattle.journal_meaning.proofs.Callers.{Each}
 use Rattle.design.specs.PinWalks.{looked_at}
-use Rattle.plan_core.specs.asked.inner.Sources.{IsSourceCovered}
+use Rattle.plan_core.specs.asked.Sources.{IsSourceCovered}
 
 -- a source that is read is one of those there are
 pub somes-has : (os : List (Option Point)) (n : ℕ) (x : Point) → get_or os n None ≡ Some x → Contains (somes os) x

@@ -9,25 +9,22 @@ use Rattle.journal_meaning.specs.Batches.{Batch}
 use Rattle.plan_machine.specs.declared.strand.Next.{Next}
 use Rattle.plan_machine.specs.declared.strand.Next.TheVariants.{Ask, Fill, Drop, Done}
 use Rattle.plan_machine.specs.Strands.{Strand, next, next_in, given_up}
-use Rattle.plan_machine.proofs.Stacks.{asks-unspent}
+use Rattle.plan_machine.proofs.Callers.{asks-unspent, shard-sound, kept-put, set-here}
 use Rattle.plan_machine.specs.declared.Turned.TheVariants as comes
 use Rattle.plan_machine.specs.Shards.{Shard, IsShard, shard_with_entry}
 use Rattle.valid_intervals.specs.Cells.{stored_at}
 use Rattle.plan_machine.specs.Plans.{Plan, home, shard_of, claim_of, with_strand}
-use Rattle.plan_machine.specs.inner.KeptPlans as kept
-use Rattle.plan_machine.specs.inner.KeptPlans.{WaitedShard, IsKeptPlan}
+use Rattle.plan_machine.specs.KeptPlans as kept
+use Rattle.plan_machine.specs.KeptPlans.{WaitedShard, IsKeptPlan}
 use Rattle.plan_machine.specs.Steps as steps
 use Rattle.plan_machine.specs.Steps.{Step, claim_step, ask_step, next_step, step_at, turned_by, turn_outcome}
 use Rattle.plan_machine.specs.Turns.{plan_after, turn_at, turn}
 use Rattle.plan_machine.specs.Alone.{plan_refusing}
-use Rattle.plan_machine.proofs.Alone.{shard-sound}
-use Rattle.plan_machine.proofs.Kept.{kept-put}
-use Rattle.plan_machine.proofs.Links.{set-here}
 use Rattle.demand_points.specs.Demands.{Demand}
 use Rattle.memo_shards.specs.KeptShards.{KeptShard, IsKnownShard}
 use Rattle.memo_shards.specs.Asks.{IsHere, IsUnfound}
 use Rattle.memo_shards.specs.Ends as ends
-use Rattle.memo_shards.specs.inner.Seen.{waited_shard, parked_of}
+use Rattle.memo_shards.specs.Seen.{waited_shard, parked_of}
 use Rattle.plan_core.specs.inner.Places.{seats}
 use Rattle.plan_core.specs.inner.Parts.{waited_shards, plan_at, IsPlan}
 use Rattle.plan_core.specs.Parts.{AreInOrder}

@@ -7,8 +7,7 @@ use Rattle.plan_machine.specs.Strands.{Strand, waiting}
 use Rattle.plan_machine.specs.declared.Turned.TheVariants as comes
 use Rattle.plan_machine.specs.Plans.{Plan}
 use Rattle.plan_machine.specs.Steps.{Rest, turned_by}
-use Rattle.plan_machine.proofs.Facts.{IsTurn, done-turn, waiting-turn}
-use Rattle.plan_machine.proofs.Links.{map-get}
+use Rattle.plan_machine.proofs.Callers.{IsTurn, done-turn, waiting-turn, map-get}
 use Rattle.std.proofs.Math.ListN.{length-map}
 use Rattle.std.proofs.lemmas.Option.{slice_get_within}
 use Rattle.demand_points.specs.Demands.{Demand}

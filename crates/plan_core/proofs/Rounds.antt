@@ -14,10 +14,7 @@ use Rattle.plan_machine.specs.Steps.{turn_outcome, is_turn}
 use Rattle.plan_machine.specs.Turns.{turn}
 use Rattle.plan_machine.specs.Bounds.{turns_left, all_left}
 use Rattle.plan_machine.specs.Alone.{plan_refusing, RunsAlone, RanAlone}
-use Rattle.plan_machine.proofs.Measure.{turn-less}
-use Rattle.plan_machine.proofs.Ready.{ready-moves}
-use Rattle.plan_machine.proofs.Journals.{turn-tasks}
-use Rattle.plan_machine.proofs.Alone.{turns-alone}
+use Rattle.plan_machine.proofs.Callers.{turn-less, ready-moves, turn-tasks, turns-alone}
 use Rattle.std.specs.List.{sum_by}
 use Rattle.plan_core.specs.inner.Refusals.{IsRefusedAt}
 

@@ -11,20 +11,18 @@ use Rattle.journal_meaning.specs.declared.Entry.{Entry}
 use Rattle.journal_meaning.specs.declared.batch.Query.{Query}
 use Rattle.journal_meaning.specs.Batches.{Batch}
 use Rattle.journal_meaning.specs.Answers.{IsCovered, fill_count, is_fill_of}
-use Rattle.journal_meaning.specs.inner.Grown.{IsRightEntry}
+use Rattle.journal_meaning.specs.Listed.{IsRightEntry}
 use Rattle.journal_meaning.specs.Grown.{AreAdded}
-use Rattle.journal_meaning.specs.inner.Index.{cells_said, IsFound, IsCellIndex}
-use Rattle.journal_meaning.proofs.Index.{found-said, said-found}
-use Rattle.journal_meaning.proofs.Lists.{Each}
+use Rattle.journal_meaning.specs.Index.{cells_said, IsFound, IsCellIndex}
+use Rattle.journal_meaning.proofs.Callers.{found-said, said-found, Each}
 use Rattle.journal_meaning.specs.Lawful.{IsLawful}
 use Rattle.plan_machine.specs.Strands.{Strand, IsStrand, started_strand}
 use Rattle.journal_meaning.specs.Pieces.{Start, IsStart}
-use Rattle.plan_machine.proofs.Started.{started-right}
+use Rattle.plan_machine.proofs.Callers.{started-right, right-of}
 use Rattle.plan_machine.specs.Shards.{Shard}
 use Rattle.plan_machine.specs.Plans.{no_shard}
 use Rattle.plan_machine.specs.Sound.{IsFresh}
 use Rattle.plan_machine.specs.Settle.{journals_of}
-use Rattle.plan_machine.proofs.Settle.{right-of}
 use Rattle.demand_points.specs.Demands.{Demand}
 use Rattle.memo_shards.specs.KeptShards.{KeptShard}
 use Rattle.plan_core.specs.Parts.{AreInOrder, AreFreshStrands, AreFree, IsFreshStrand, shards_in}

@@ -11,17 +11,15 @@ use Rattle.journal_meaning.specs.Batches.{Batch}
 use Rattle.plan_machine.specs.Strands.{Strand}
 use Rattle.plan_machine.specs.Shards.{Shard}
 use Rattle.plan_machine.specs.Plans.{Plan, no_shard, shard_of, with_strand, with_shard}
-use Rattle.plan_machine.specs.inner.KeptPlans as kept
-use Rattle.plan_machine.specs.inner.KeptPlans.{WaitedShard, Parked, no_waited_shard, shards_of, plan_of, IsKeptPlan}
+use Rattle.plan_machine.specs.KeptPlans as kept
+use Rattle.plan_machine.specs.KeptPlans.{WaitedShard, Parked, no_waited_shard, shards_of, plan_of, IsKeptPlan}
 use Rattle.plan_machine.specs.Turns.{turn}
 use Rattle.plan_machine.specs.Sound.{IsSound}
-use Rattle.plan_machine.proofs.Links.{set-here, set-other, map-get}
-use Rattle.plan_machine.proofs.Kept.{kept-is, kept-step, kept-put}
-use Rattle.plan_machine.proofs.Turns.{turn-sound}
+use Rattle.plan_machine.proofs.Callers.{set-here, set-other, map-get, kept-is, kept-step, kept-put, turn-sound}
 use Rattle.demand_points.specs.Demands.{Demand, TakesStep, itself}
 use Rattle.memo_shards.specs.KeptShards.{KeptShard, IsKnownShard}
-use Rattle.memo_shards.specs.inner.Seen.{parked_of, waited_shard}
-use Rattle.memo_shards.proofs.Seen.{homes-seen}
+use Rattle.memo_shards.specs.Seen.{parked_of, waited_shard}
+use Rattle.memo_shards.proofs.Callers.{homes-seen}
 use Rattle.plan_core.specs.inner.Places.{seat, seats, AreNumbered}
 use Rattle.plan_core.specs.inner.Parts.{blank, waited_shards, plan_at, IsPlan}
 use Rattle.plan_core.specs.Parts.{AreInOrder}

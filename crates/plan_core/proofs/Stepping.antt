@@ -15,17 +15,16 @@ use Rattle.plan_machine.specs.Shards.{Shard, shard_with_entry, filled_shard}
 use Rattle.valid_intervals.specs.Cells.{stored_at}
 use Rattle.plan_machine.specs.Plans.{Plan, shard_of, claim_of, with_strand, with_shard, with_woken, woken_strand, itself}
 use Rattle.plan_machine.specs.Steps.{turned_by}
-use Rattle.plan_machine.specs.inner.Parts.{NumberedStrand, IsAmong, put_back}
-use Rattle.plan_machine.specs.inner.KeptPlans as kept
-use Rattle.plan_machine.specs.inner.KeptPlans.{WaitedShard, IsKeptPlan}
-use Rattle.plan_machine.proofs.Kept.{kept-wait, kept-wake}
-use Rattle.plan_machine.proofs.Facts.{told-turn, claimed-turn, waits-turn, spent-turn, filled-turn, dropped-turn}
+use Rattle.plan_machine.specs.Parts.{NumberedStrand, IsAmong, put_back}
+use Rattle.plan_machine.specs.KeptPlans as kept
+use Rattle.plan_machine.specs.KeptPlans.{WaitedShard, IsKeptPlan}
+use Rattle.plan_machine.proofs.Callers.{kept-wait, kept-wake, told-turn, claimed-turn, waits-turn, spent-turn, filled-turn, dropped-turn, fill-top, drop-top, top-held, heard-fits}
 use Rattle.demand_points.specs.Demands as demands
 use Rattle.demand_points.specs.Demands.{Demand, TakesStep}
 use Rattle.memo_shards.specs.KeptShards.{KeptShard, IsKnownShard, waiting_at}
 use Rattle.memo_shards.specs.Asks.{Tells, ClaimsIt, WaitsThere, Refuses}
-use Rattle.memo_shards.specs.inner.Seen.{numbered_strand, waited_shard}
-use Rattle.memo_shards.proofs.Seen.{waits-here, waits-other, waiting-seen, none-here, none-other, zip-seen, changed}
+use Rattle.memo_shards.specs.Seen.{numbered_strand, waited_shard}
+use Rattle.memo_shards.proofs.Callers.{waits-here, waits-other, waiting-seen, none-here, none-other, zip-seen, changed}
 use Rattle.plan_core.specs.inner.Places.{seat, seats, AreNumbered, HaveNumbers, IsNextAt}
 use Rattle.plan_core.specs.inner.Parts.{waited_shards, plan_at, IsPlan}
 use Rattle.plan_core.specs.inner.Turns.{OfPlaceStep, OfTurn, IsSeen}
@@ -35,9 +34,7 @@ use Rattle.std.proofs.Math.ListN.{length-map, length-set}
 use Rattle.std.proofs.lemmas.Option.{get_or_from_slice_get, slice_get_within}
 use Rattle.circuit_meaning.specs.Cells.{cell_at}
 use Rattle.plan_machine.specs.Strands as strands
-use Rattle.plan_machine.proofs.Stacks.{fill-top, drop-top, top-held}
 use Rattle.plan_machine.specs.Turns.{turn}
-use Rattle.plan_machine.proofs.Parts.{heard-fits}
 use Rattle.memo_shards.specs.Ends.{FillsIt, DropsIt, LeavesNone}
 use Rattle.plan_machine.specs.declared.strand.Next.{Next}
 use Rattle.std.specs.Global.{Vec}

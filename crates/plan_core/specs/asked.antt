@@ -5,3 +5,5 @@ pub mod Memos
 pub mod Shards
 pub mod Wanted
 pub mod inner
+pub mod Sources
+pub mod Standings

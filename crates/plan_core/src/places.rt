@@ -1,10 +1,10 @@
 //! The places of strands.
 
 ghost use Rattle.std.specs.Prelude.{◌≡◌, ◌<◌, length, map, slice_get, slice_set, Some, None, IfOk, IfSome};
-ghost use Rattle.plan_machine.specs.inner.Parts.{put_back as put_all};
+ghost use Rattle.plan_machine.specs.Parts.{put_back as put_all};
 ghost use Rattle.plan_machine.specs.Plans.{itself};
 ghost use Rattle.demand_points.specs.Demands.{Demand};
-ghost use Rattle.memo_shards.specs.inner.Seen.{numbered_strand};
+ghost use Rattle.memo_shards.specs.Seen.{numbered_strand};
 ghost use Rattle.plan_core.specs.inner.Places.{seats, tags, tag_of, AreNumbered, HaveNumbers, IsNextAt};
 
 use crate::paused::Paused;

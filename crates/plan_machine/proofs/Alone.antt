@@ -15,9 +15,7 @@ use Rattle.journal_meaning.specs.Batches.{Batch}
 use Rattle.circuit_meaning.specs.Cells.{cell_at}
 use Rattle.journal_meaning.specs.Answers.{IsCovered, last_of, fill_count}
 use Rattle.journal_meaning.specs.Grown.{IsSaid, IsFor, refusals, AreAdded}
-use Rattle.journal_meaning.proofs.Claims.{own-covers}
-use Rattle.journal_meaning.proofs.Lists.{Each, Differ, each-left, pairs_from, pairs_to}
-use Rattle.journal_meaning.proofs.Grown.{added-more, covered-now, last-now}
+use Rattle.journal_meaning.proofs.Callers.{own-covers, Each, Differ, each-left, pairs_from, pairs_to, added-more, covered-now, last-now}
 use Rattle.journal_meaning.specs.Lawful.{IsLawful}
 use Rattle.plan_machine.specs.declared.strand.Next.{Next}
 use Rattle.plan_machine.specs.declared.strand.Next.TheVariants.{Ask, Fill, Drop, Done}

@@ -4,7 +4,7 @@ use Rattle.std.proofs.lemmas.Bool.{cases_Bool}
 use Rattle.valid_intervals.specs.declared.Point.{Point}
 use Rattle.valid_intervals.specs.declared.SignalCell.{SignalCell}
 use Rattle.journal_meaning.specs.Batches.{Batch}
-use Rattle.journal_meaning.proofs.Grown.{added-none}
+use Rattle.journal_meaning.proofs.Callers.{added-none}
 use Rattle.journal_meaning.specs.Lawful.{IsLawful}
 use Rattle.plan_machine.specs.declared.strand.Next.{Next}
 use Rattle.plan_machine.specs.declared.strand.Next.TheVariants.{Ask, Fill, Drop, Done}

@@ -12,19 +12,16 @@ use Rattle.journal_meaning.specs.States.{Claim, holder, without_point}
 use Rattle.journal_meaning.specs.States as states
 use Rattle.journal_meaning.specs.Replay.{replay, IsAtEnd, IsLegalBatch}
 use Rattle.journal_meaning.specs.Batches.{Batch}
-use Rattle.journal_meaning.specs.inner.Grown.{IsHome, AreHome}
+use Rattle.journal_meaning.specs.Listed.{IsHome, AreHome}
 use Rattle.journal_meaning.specs.Grown.{is_spent_of, refusals, GrowsBy, AreAdded}
-use Rattle.journal_meaning.proofs.Claims.{holder-each, holder-without, without-other, cases_point}
-use Rattle.journal_meaning.proofs.Named.{Ours, claims_ours, none_ours}
-use Rattle.journal_meaning.proofs.Lists.{Each, each-imply}
-use Rattle.journal_meaning.proofs.Grown.{added-each, added-more, count-none, refusals-more, legal-home}
+use Rattle.journal_meaning.proofs.Callers.{holder-each, holder-without, without-other, cases_point, Ours, claims_ours, none_ours, Each, each-imply, added-each, added-more, count-none, refusals-more, legal-home}
 use Rattle.journal_meaning.specs.Lawful.{IsLawful}
 use Rattle.circuit_meaning.specs.Circuit.{Circuit}
 use Rattle.plan_machine.specs.Shards.{Shard, IsShard, shard_with_entry}
 use Rattle.plan_machine.specs.Plans.{no_shard}
 use Rattle.plan_machine.specs.Sound.{IsFresh}
 use Rattle.plan_machine.specs.Settle.{journals_of, entries_in, IsSettled, AreAllSettled, AreSettled, IsOrder, drop_of, shard_without, AreFreed, AreShards, AreAnswered, IsAnswered}
-use Rattle.plan_machine.specs.inner.Settle.{IsDrop}
+use Rattle.plan_machine.specs.Standings.{IsDrop}
 use Rattle.plan_machine.specs.Settling.{settle}
 use Rattle.plan_machine.proofs.Shards.{dropped-shard}
 use Rattle.plan_machine.proofs.Journals.{journal-at}

@@ -11,10 +11,8 @@ use Rattle.journal_meaning.specs.declared.Entry.{Entry}
 use Rattle.journal_meaning.specs.declared.Entry.TheVariants.{Filled, Dropped, Spent}
 use Rattle.journal_meaning.specs.Answers.{is_of, last_of, is_fill_of, fill_count}
 use Rattle.journal_meaning.specs.Grown.{IsFor, is_spent_of, refusals}
-use Rattle.valid_intervals.proofs.Same.{same_point-itself}
-use Rattle.journal_meaning.proofs.Claims.{cases_point}
-use Rattle.journal_meaning.proofs.Lists.{Each, Differ, each-append, each-left, pairs_to}
-use Rattle.journal_meaning.proofs.Grown.{last-append, last-none, count-append, count-none}
+use Rattle.valid_intervals.proofs.Callers.{same_point-itself}
+use Rattle.journal_meaning.proofs.Callers.{cases_point, Each, Differ, each-append, each-left, pairs_to, last-append, last-none, count-append, count-none}
 use Rattle.plan_machine.specs.Strands.{Frame, Strand, asked_children, rest, given_up, after_drop, IsOnStack, left_in, IsFirst, IsChain}
 use Rattle.journal_meaning.specs.Pieces.{Start}
 use Rattle.plan_machine.proofs.Stacks.{IsTop, length-rest, earlier}

@@ -12,9 +12,8 @@ use Rattle.journal_meaning.specs.States.{fresh}
 use Rattle.journal_meaning.specs.Batches.{Batch}
 use Rattle.circuit_meaning.specs.Cells.{cell_at}
 use Rattle.journal_meaning.specs.Grown.{IsFor, AreAdded}
-use Rattle.journal_meaning.specs.inner.Grown.{IsHome, AreHome}
-use Rattle.journal_meaning.proofs.Lists.{Each, each-append}
-use Rattle.journal_meaning.proofs.Grown.{added-one, added-none, added-more, legal-home}
+use Rattle.journal_meaning.specs.Listed.{IsHome, AreHome}
+use Rattle.journal_meaning.proofs.Callers.{Each, each-append, added-one, added-none, added-more, legal-home}
 use Rattle.journal_meaning.specs.Lawful.{IsLawful}
 use Rattle.plan_machine.specs.Strands.{Strand, after_answer, awake}
 use Rattle.plan_machine.specs.Shards.{Shard, shard_with_entry, shard_without_cell, with_room, filled_shard}

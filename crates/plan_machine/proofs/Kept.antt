@@ -11,9 +11,9 @@ use Rattle.valid_intervals.specs.Cells.{same_point}
 use Rattle.plan_machine.specs.Strands.{Strand, next, waiting, awake}
 use Rattle.plan_machine.specs.Shards.{Shard}
 use Rattle.plan_machine.specs.Plans.{Plan, no_shard, shard_of, woken_strand, with_shard}
-use Rattle.plan_machine.specs.inner.Parts.{NumberedStrand, IsAmong, AreParts, put_back, with_waiters, strands_from}
-use Rattle.plan_machine.specs.inner.KeptPlans.{Parked, WaitedShard, no_waited_shard, waiting_at, waited_shard_at, waiters, all_waiters, shards_of, plan_of, IsKeptPlan}
-use Rattle.journal_meaning.proofs.Claims.{cases_point}
+use Rattle.plan_machine.specs.Parts.{NumberedStrand, IsAmong, AreParts, put_back, with_waiters, strands_from}
+use Rattle.plan_machine.specs.KeptPlans.{Parked, WaitedShard, no_waited_shard, waiting_at, waited_shard_at, waiters, all_waiters, shards_of, plan_of, IsKeptPlan}
+use Rattle.journal_meaning.proofs.Callers.{cases_point}
 use Rattle.plan_machine.proofs.Parts.{strands-are, put-parts, wait-parts, wake-parts, put-get}
 
 -- waiters by lists

@@ -1,24 +1,25 @@
-pub mod Shards
-pub mod Links
-pub mod Steps
-pub mod Turns
-pub mod Ready
-pub mod Ends
-pub mod Measure
-pub mod New
-pub mod Safe
-pub mod Examples
-pub mod Facts
-pub mod Parts
-pub mod Kept
-pub mod Journals
-pub mod Underway
-pub mod GivingUp
-pub mod Alone
-pub mod AloneRuns
-pub mod Settle
-pub mod Settling
-pub mod Freed
-pub mod Stacks
-pub mod Wanted
-pub mod Started
+mod Shards
+mod Links
+mod Steps
+mod Turns
+mod Ready
+mod Ends
+mod Measure
+mod New
+mod Safe
+mod Examples
+mod Facts
+mod Parts
+mod Kept
+mod Journals
+mod Underway
+mod GivingUp
+mod Alone
+mod AloneRuns
+mod Settle
+mod Settling
+mod Freed
+mod Stacks
+mod Wanted
+mod Started
+pub mod Callers

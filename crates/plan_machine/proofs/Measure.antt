@@ -6,7 +6,7 @@ use Rattle.std.proofs.lemmas.Bool.{cases_Bool, and_parts, ltb-true}
 use Rattle.std.proofs.lemmas.List.Sums.{sum_by-set, sum_by-cons}
 use Rattle.std.proofs.lemmas.Option.{get_or_from_slice_get, slice_get_within}
 use Rattle.std.proofs.Math.Nat.{suc-mul}
-use Rattle.circuit_meaning.proofs.Looking.{cut-whole}
+use Rattle.circuit_meaning.proofs.Callers.{cut-whole}
 use Rattle.gate_values.specs.Gates.{decides}
 use Rattle.valid_intervals.specs.declared.Point.{Point}
 use Rattle.circuit_meaning.specs.declared.Pin.{Pin}

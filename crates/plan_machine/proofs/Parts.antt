@@ -8,8 +8,8 @@ use Rattle.valid_intervals.specs.declared.Point.{Point}
 use Rattle.plan_machine.specs.declared.strand.Next.TheVariants.{Ask}
 use Rattle.plan_machine.specs.Strands.{Strand, next, waiting, awake, after_answer}
 use Rattle.plan_machine.specs.Plans.{asks, woken_strand}
-use Rattle.plan_machine.specs.inner.Parts.{NumberedStrand, IsAmong, AreParts, put_back, with_waiters, waiter_at, placed_at, strands_from}
-use Rattle.journal_meaning.proofs.Claims.{cases_point}
+use Rattle.plan_machine.specs.Parts.{NumberedStrand, IsAmong, AreParts, put_back, with_waiters, waiter_at, placed_at, strands_from}
+use Rattle.journal_meaning.proofs.Callers.{cases_point}
 use Rattle.plan_machine.proofs.Links.{set-here, set-other, map-get}
 use Rattle.plan_machine.proofs.Measure.{woken-itself}
 

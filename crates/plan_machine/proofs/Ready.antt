@@ -2,7 +2,7 @@
 use Rattle.std.proofs.Common.{◌≡◌, ℕ, zero, suc, ◌+◌, ◌<◌, ◌⊎◌, not, Bool, true, false, List, [], ◌∷◌, slice_get, refl, ap, sym, ◌∙◌, subst, arith, inl, inr, Option, Some, None, ◌≢◌, cond, nat_lt, true≢false}
 use Rattle.std.proofs.lemmas.Bool.{cases_Bool, and_from, and_parts, not-true}
 use Rattle.valid_intervals.specs.declared.Point.{Point}
-use Rattle.circuit_meaning.proofs.Table.{at_all_times}
+use Rattle.circuit_meaning.proofs.Callers.{at_all_times}
 use Rattle.plan_machine.specs.declared.strand.Next.{Next}
 use Rattle.plan_machine.specs.declared.strand.Next.TheVariants.{Ask, Fill, Drop, Done}
 use Rattle.plan_machine.specs.Strands.{Frame, Strand, ask_or, next_in, next, IsOnStack}

@@ -8,8 +8,7 @@ use Rattle.valid_intervals.specs.declared.SignalCell.{SignalCell}
 use Rattle.circuit_meaning.specs.Circuit.{Circuit, IsCircuit}
 use Rattle.journal_meaning.specs.Batches.{Batch, IsNeededBy, OfQuery}
 use Rattle.journal_meaning.specs.Allowed.{IsRight}
-use Rattle.journal_meaning.proofs.Fills.{one-fill-per_eviction}
-use Rattle.journal_meaning.proofs.More.{right-within}
+use Rattle.journal_meaning.proofs.Callers.{one-fill-per_eviction, right-within}
 use Rattle.journal_meaning.specs.Lawful.{IsLawful}
 use Rattle.plan_machine.specs.Strands.{Frame, IsOnStack, IsChain}
 use Rattle.plan_machine.proofs.Stacks.{top-once}

@@ -8,8 +8,7 @@ use Rattle.valid_intervals.specs.declared.SignalCell.{SignalCell}
 use Rattle.circuit_meaning.specs.Circuit.{Circuit, Driver, Input}
 use Rattle.circuit_meaning.specs.Need.{HasChildren, IsEvaluable, IsRoot, First, Next, children}
 use Rattle.circuit_meaning.specs.Cells.{span}
-use Rattle.circuit_meaning.proofs.Cover.{cell-covers}
-use Rattle.circuit_meaning.proofs.Closed.{need-closed, held-need-closed}
+use Rattle.circuit_meaning.proofs.Callers.{cell-covers, need-closed, held-need-closed}
 use Rattle.journal_meaning.specs.declared.Entry.{Entry}
 use Rattle.journal_meaning.specs.declared.Entry.TheVariants.{Filled, Dropped, Spent}
 use Rattle.journal_meaning.specs.declared.batch.Query.{Query}
@@ -18,11 +17,8 @@ use Rattle.journal_meaning.specs.Replay.{replay}
 use Rattle.journal_meaning.specs.Batches.{Batch, Site, IsNeededBy, NeedOf, window_of}
 use Rattle.journal_meaning.specs.Answers.{IsCovered, last_of, fill_count, IsClosed, IsSpent}
 use Rattle.journal_meaning.specs.Grown.{IsFor, refusals, GrowsBy}
-use Rattle.journal_meaning.specs.inner.Grown.{IsForOther, IsRightEntry, AreTimesCovered}
-use Rattle.journal_meaning.proofs.Named.{claims_ours, none_ours}
-use Rattle.journal_meaning.proofs.Lists.{Each, each-append, each-imply}
-use Rattle.journal_meaning.proofs.Grown.{added-none, added-more, for-other, grows-more, covered-kept, filled-more, refusals-more, others-refusals, children-kept, spent-kept}
-use Rattle.journal_meaning.proofs.Windows.{right-entries, times-more, closed-by}
+use Rattle.journal_meaning.specs.Listed.{IsForOther, IsRightEntry, AreTimesCovered}
+use Rattle.journal_meaning.proofs.Callers.{claims_ours, none_ours, Each, each-append, each-imply, added-none, added-more, for-other, grows-more, covered-kept, filled-more, refusals-more, others-refusals, children-kept, spent-kept, right-entries, times-more, closed-by}
 use Rattle.journal_meaning.specs.Lawful.{IsLawful}
 use Rattle.journal_meaning.specs.Pieces.{Start, IsStart}
 use Rattle.plan_machine.specs.Strands.{roots_from}
@@ -33,7 +29,7 @@ use Rattle.plan_machine.specs.Sound.{IsFresh}
 use Rattle.plan_machine.specs.Laws.{BeginsAlone}
 use Rattle.plan_machine.specs.Alone.{roots_of, IsServedAlone, IsRefusedAlone, RanAlone}
 use Rattle.plan_machine.specs.Settle.{Standing, AreAllSettled, journals_of, charge_of, entries_in, child_start, root_start, IsSettled}
-use Rattle.plan_machine.specs.inner.Settle.{StandsAs, IsStanding, Advances, Reaches, IsCoveredTo, IsAskedFor, SettlesQuery, IsSettling, AskedAlone, IsVisited, IsOpen, AreVisited}
+use Rattle.plan_machine.specs.Standings.{StandsAs, IsStanding, Advances, Reaches, IsCoveredTo, IsAskedFor, SettlesQuery, IsSettling, AskedAlone, IsVisited, IsOpen, AreVisited}
 use Rattle.plan_machine.proofs.Steps.{wanted-time}
 use Rattle.plan_machine.proofs.New.{new-sound}
 use Rattle.plan_machine.proofs.Underway.{contains-cases, contains-none, each-contains}

@@ -16,10 +16,8 @@ use Rattle.journal_meaning.specs.States as states
 use Rattle.journal_meaning.specs.Batches.{Batch, IsNeededBy, window_of}
 use Rattle.journal_meaning.specs.Answers.{Says, IsCovered}
 use Rattle.journal_meaning.specs.Grown.{IsFor, GrowsBy, AreAdded}
-use Rattle.journal_meaning.specs.inner.Grown.{IsForOther}
-use Rattle.journal_meaning.proofs.Named.{Needed, filled_needed}
-use Rattle.journal_meaning.proofs.Lists.{Each, each-append, each-imply}
-use Rattle.journal_meaning.proofs.Grown.{added-none, added-more, grows-none, for-other}
+use Rattle.journal_meaning.specs.Listed.{IsForOther}
+use Rattle.journal_meaning.proofs.Callers.{Needed, filled_needed, Each, each-append, each-imply, added-none, added-more, grows-none, for-other}
 use Rattle.journal_meaning.specs.Lawful.{IsLawful}
 use Rattle.journal_meaning.specs.Pieces.{Start, IsStart}
 use Rattle.plan_machine.specs.Strands.{is_evaluable}
@@ -29,7 +27,7 @@ use Rattle.plan_machine.specs.Plans.{no_shard, new_plan}
 use Rattle.plan_machine.specs.Bounds.{all_left}
 use Rattle.plan_machine.specs.Sound.{IsFresh}
 use Rattle.plan_machine.specs.Alone.{run_alone}
-use Rattle.plan_machine.specs.inner.Settle.{IsAskedFor, IsStanding, Advances, Reaches, IsCoveredTo, SettlesQuery, AskedAlone, IsVisited, IsOpen}
+use Rattle.plan_machine.specs.Standings.{IsAskedFor, IsStanding, Advances, Reaches, IsCoveredTo, SettlesQuery, AskedAlone, IsVisited, IsOpen}
 use Rattle.plan_machine.specs.Settle.{Standing, journals_of, entries_in, charge_of, child_start, root_start, AreAllSettled, AreSettled}
 use Rattle.plan_machine.specs.Settling.{says, is_covered_in, is_spent, run_of, ask, settle_point, settle_child, settle_root, settle_children, settle_fills, settle_window, fills_of, settle_query, Settled, settle_all, settle}
 use Rattle.plan_machine.proofs.Underway.{evaluable-is, contains-cases, contains-none, each-contains}

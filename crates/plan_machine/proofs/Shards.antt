@@ -19,9 +19,8 @@ use Rattle.journal_meaning.specs.Allowed.{IsAt, IsAllowed, IsRight}
 use Rattle.circuit_meaning.specs.Cells.{cell_at}
 use Rattle.journal_meaning.specs.Replay.{replay, IsLegal}
 use Rattle.plan_machine.specs.Strands.{Strand, IsStrand}
-use Rattle.journal_meaning.proofs.Lists.{Stands, Here, There, each-stands, stands-any, front-snoc, snoc_cases}
-use Rattle.valid_intervals.proofs.Same.{same_stored-itself}
-use Rattle.journal_meaning.proofs.More.{replay-more, legal-more, booked-append, still-right, still-fits, right-answers}
+use Rattle.journal_meaning.proofs.Callers.{Stands, Here, There, each-stands, stands-any, front-snoc, snoc_cases, replay-more, legal-more, booked-append, still-right, still-fits, right-answers}
+use Rattle.valid_intervals.proofs.Callers.{same_stored-itself}
 use Rattle.plan_machine.specs.Shards.{Shard, shard_with_entry, shard_without_cell, with_room, filled_shard, IsShard}
 
 -- what a search finds

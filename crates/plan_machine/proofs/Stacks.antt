@@ -6,7 +6,7 @@ use Rattle.circuit_meaning.specs.Circuit.{Circuit, Driver, Input, Gate, Flop, dr
 use Rattle.valid_intervals.specs.declared.Point.{Point}
 use Rattle.circuit_meaning.specs.declared.Window.{Window}
 use Rattle.circuit_meaning.specs.Need.{children, IsEvaluable, HasChildren, IsNeeded, Root, Child}
-use Rattle.circuit_meaning.proofs.Points.{children-earlier}
+use Rattle.circuit_meaning.proofs.Callers.{children-earlier}
 use Rattle.journal_meaning.specs.Batches.{Batch, window_of}
 use Rattle.plan_machine.specs.declared.strand.Next.TheVariants.{Ask, Fill, Drop, Done}
 use Rattle.plan_machine.specs.declared.strand.Next.{Next}

@@ -8,15 +8,14 @@ use Rattle.valid_intervals.specs.declared.Point.{Point}
 use Rattle.valid_intervals.specs.declared.SignalCell.{SignalCell}
 use Rattle.valid_intervals.specs.Cells.{same_point, stored_at}
 use Rattle.circuit_meaning.specs.Forced.{forced_circuit}
-use Rattle.circuit_meaning.proofs.Alike.{held-fits}
-use Rattle.circuit_meaning.proofs.Roots.{needed-before}
+use Rattle.circuit_meaning.proofs.Callers.{held-fits, needed-before}
 use Rattle.journal_meaning.specs.declared.batch.Query.{Query}
 use Rattle.journal_meaning.specs.declared.Entry.TheVariants.{Told, Claimed, Dropped}
 use Rattle.journal_meaning.specs.States.{holder, without_point}
 use Rattle.journal_meaning.specs.Batches.{Batch, Site, IsNeededBy, NeedOf, OfQuery, window_of}
 use Rattle.journal_meaning.specs.Allowed.{IsAt}
 use Rattle.circuit_meaning.specs.Cells.{cell_at}
-use Rattle.journal_meaning.proofs.Claims.{cases_point, claim-here, claim-other, holder-without, without-other}
+use Rattle.journal_meaning.proofs.Callers.{cases_point, claim-here, claim-other, holder-without, without-other}
 use Rattle.journal_meaning.specs.Lawful.{IsLawful}
 use Rattle.plan_machine.specs.declared.strand.Next.TheVariants.{Ask, Fill, Drop}
 use Rattle.plan_machine.specs.Strands.{Strand, next, rest, after_answer, after_claim, waiting, awake, given_up, after_drop, after_fill, IsOnStack, IsStrand}

@@ -9,8 +9,7 @@ use Rattle.journal_meaning.specs.declared.Entry.{Entry}
 use Rattle.journal_meaning.specs.declared.Entry.TheVariants.{Told, Claimed, Filled, Evicted, Dropped, Spent}
 use Rattle.journal_meaning.specs.Answers.{IsCovered, is_fill_of, fill_count}
 use Rattle.journal_meaning.specs.Grown.{IsSaid, IsFor, is_spent_of, refusals}
-use Rattle.journal_meaning.proofs.Lists.{Each, contains-one, each-append, each-imply}
-use Rattle.journal_meaning.proofs.Grown.{grows-append, said-kept, count-append, count-none}
+use Rattle.journal_meaning.proofs.Callers.{Each, contains-one, each-append, each-imply, grows-append, said-kept, count-append, count-none}
 use Rattle.plan_machine.specs.Strands.{Frame, Strand, started_strand, has_children, is_evaluable, asked_children, rest, roots_heard, stack_heard, after_answer, after_claim, left_in, IsFirst}
 use Rattle.journal_meaning.specs.Pieces.{Start}
 use Rattle.plan_machine.proofs.Stacks.{IsTop, HasHeard, rest_all, length-rest, length-heard}

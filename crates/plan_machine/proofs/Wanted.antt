@@ -6,9 +6,7 @@ use Rattle.circuit_meaning.specs.Circuit.{Circuit, IsCircuit}
 use Rattle.circuit_meaning.specs.Need.{IsNeeded}
 use Rattle.circuit_meaning.specs.Forced.{forced_circuit}
 use Rattle.circuit_meaning.specs.Laws.{at_point}
-use Rattle.circuit_meaning.proofs.Alike.{held-fits}
-use Rattle.circuit_meaning.proofs.Free.{needed-alike}
-use Rattle.circuit_meaning.proofs.Roots.{needed-alone, needed-before}
+use Rattle.circuit_meaning.proofs.Callers.{held-fits, needed-alike, needed-alone, needed-before}
 use Rattle.journal_meaning.specs.declared.batch.Query.{Query}
 use Rattle.journal_meaning.specs.Batches.{Batch, Site, IsNeededBy, NeedOf, OfQuery, window_of}
 use Rattle.journal_meaning.specs.Lawful.{IsLawful, IsQueryOf, start_of}

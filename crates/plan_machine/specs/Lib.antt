@@ -9,6 +9,8 @@ pub mod Journals
 pub mod Alone
 pub mod Settle
 pub mod Settling
-pub mod inner
 pub mod Strands
 pub mod StrandLaws
+pub mod KeptPlans
+pub mod Parts
+pub mod Standings

@@ -17,7 +17,7 @@
 //! a function of the plan alone, and code may keep its waiting strands anywhere.
 //!
 //! How code is bound to the machine: the crate that keeps a plan gives it a model whose value is a plan. It promises of its `turn` that the
-//! new value is `turn batch old number`. `specs/inner/Parts` and `specs/inner/KeptPlans` read a plan back from what code keeps: a place for
+//! new value is `turn batch old number`. `specs/Parts` and `specs/KeptPlans` read a plan back from what code keeps: a place for
 //! each strand, with a gap if the strand waits, and shards that hold the waiting strands. Their lemmas say what each kind of step changes
 //! of these parts. The crates below promise their parts in the machine's terms: a strand's steps are those of `specs/Strands`, and a
 //! shard's are `recorded` and `filled_shard`. Every theorem then holds of the code, in any order of turns.

@@ -9,7 +9,7 @@ use Rattle.circuit_meaning.specs.Need.{IsEvaluable, Root, First}
 use Rattle.journal_meaning.specs.declared.Entry.{Entry}
 use Rattle.journal_meaning.specs.Answers.{IsCovered, IsClosed}
 use Rattle.journal_meaning.specs.Grown.{AreAdded}
-use Rattle.journal_meaning.proofs.Grown.{grows-none}
+use Rattle.journal_meaning.proofs.Callers.{grows-none}
 use Rattle.journal_meaning.specs.declared.batch.Query.{Query}
 use Rattle.journal_meaning.specs.Batches.{Batch, Site, IsNeededBy, NeedOf}
 use Rattle.journal_meaning.specs.Lawful.{IsLawful}
@@ -18,14 +18,13 @@ use Rattle.session_meaning.specs.declared.Verdict.TheVariants.{Ask}
 use Rattle.reply_lines.specs.declared.reply.Outcome.TheVariants.{Budget}
 use Rattle.plan_machine.specs.Shards.{Shard}
 use Rattle.plan_machine.specs.Settle.{journals_of}
-use Rattle.plan_machine.specs.inner.Settle.{IsOpen, IsStanding, Advances, Reaches}
-use Rattle.plan_machine.proofs.Settle.{begins-query, settles-closed}
-use Rattle.plan_machine.proofs.Underway.{contains-none}
+use Rattle.plan_machine.specs.Standings.{IsOpen, IsStanding, Advances, Reaches}
+use Rattle.plan_machine.proofs.Callers.{begins-query, settles-closed, contains-none}
 use Rattle.memo_shards.specs.KeptShards.{KeptShard}
 use Rattle.plan_core.specs.Parts.{shards_in}
 use Rattle.design.specs.PinWalks.{IsPoint}
 use Rattle.plan_core.specs.asked.Memos.{AreFreeShards, entries_of, is_missing}
-use Rattle.plan_core.specs.asked.inner.Standings.{live, standing}
+use Rattle.plan_core.specs.asked.Standings.{live, standing}
 use Rattle.query_answers.specs.explanations.inner.Gathered.{AreExplained}
 
 module _ (b : Batch) (lawful : IsLawful b) (opening : ℕ → List SignalCell) (q : Query) (queries : b.queries ≡ q ∷ []) (window : q.to ≡ q.from + 1) where

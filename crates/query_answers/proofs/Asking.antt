@@ -10,22 +10,22 @@ use Rattle.circuit_meaning.specs.Need.{IsEvaluable}
 use Rattle.journal_meaning.specs.declared.Entry.{Entry}
 use Rattle.journal_meaning.specs.declared.Entry.TheVariants.{Told, Claimed, Filled, Evicted, Dropped, Spent}
 use Rattle.journal_meaning.specs.Answers.{Says, IsCovered}
-use Rattle.journal_meaning.specs.inner.Grown.{IsRightEntry}
+use Rattle.journal_meaning.specs.Listed.{IsRightEntry}
 use Rattle.session_meaning.specs.Explanations.{Tells}
-use Rattle.why_proofs.proofs.Sound.{covers-from, steady}
+use Rattle.why_proofs.proofs.Callers.{covers-from, steady}
 use Rattle.journal_meaning.specs.declared.batch.Query.{Query}
 use Rattle.journal_meaning.specs.Batches.{Batch}
 use Rattle.journal_meaning.specs.Lawful.{IsLawful}
 use Rattle.plan_machine.specs.Shards.{Shard}
 use Rattle.plan_machine.specs.Settle.{sub_query, child_start, charge_of}
-use Rattle.plan_machine.specs.inner.Settle.{IsStanding, IsAskedFor, Reaches}
-use Rattle.plan_machine.proofs.Settle.{child-asked, right-of, stays}
+use Rattle.plan_machine.specs.Standings.{IsStanding, IsAskedFor, Reaches}
+use Rattle.plan_machine.proofs.Callers.{child-asked, right-of, stays}
 use Rattle.memo_shards.specs.KeptShards.{KeptShard}
 use Rattle.plan_core.specs.Parts.{shards_in}
 use Rattle.plan_core.specs.asked.Memos.{entries_of, asked_at}
 use Rattle.plan_core.specs.asked.Asked.{HasAsked}
-use Rattle.plan_core.specs.asked.inner.Standings.{live, standing}
-use Rattle.plan_core.proofs.AskedCells.{reaches, root-covered}
+use Rattle.plan_core.specs.asked.Standings.{live, standing}
+use Rattle.plan_core.proofs.Callers.{reaches, root-covered}
 use Rattle.query_answers.specs.declared.explanations.waiting.Asked.{Asked}
 use Rattle.query_answers.specs.explanations.inner.Waiting.{line_of, point_of, Places, Adds}
 use Rattle.query_answers.specs.explanations.inner.Gathered.{IsTold, Looks}

@@ -10,7 +10,7 @@ use Rattle.plan_machine.specs.Plans.{no_shard}
 use Rattle.plan_machine.specs.Sound.{IsFresh}
 use Rattle.memo_shards.specs.KeptShards.{KeptShard}
 use Rattle.plan_core.specs.Parts.{shards_in}
-use Rattle.plan_core.proofs.Entries.{shard-at}
+use Rattle.plan_core.proofs.Callers.{shard-at}
 
 at-end : (rest : List KeptShard) (m : KeptShard) → get_or (rest ++ m ∷ []) (length rest) m ≡ m
 at-end [] m = refl

@@ -5,7 +5,7 @@ use Rattle.journal_meaning.specs.declared.Entry.{Entry}
 use Rattle.journal_meaning.specs.declared.Entry.TheVariants.{Told, Claimed, Filled, Evicted, Dropped, Spent}
 use Rattle.journal_meaning.specs.Answers.{is_fill_of, fill_count}
 use Rattle.journal_meaning.specs.Counts.{evaluated_point}
-use Rattle.journal_meaning.proofs.Grown.{fills-none}
+use Rattle.journal_meaning.proofs.Callers.{fills-none}
 use Rattle.plan_machine.specs.Settling.{fills_of}
 
 -- the points that a query filled, of two lists of entries

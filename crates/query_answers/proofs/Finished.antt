@@ -3,9 +3,9 @@ use Rattle.std.proofs.Common.{ℕ, List, [], ◌++◌}
 use Rattle.valid_intervals.specs.declared.SignalCell.{SignalCell}
 use Rattle.journal_meaning.specs.Batches.{Batch}
 use Rattle.journal_meaning.specs.Lawful.{IsLawful}
-use Rattle.journal_meaning.proofs.Grown.{added-more}
+use Rattle.journal_meaning.proofs.Callers.{added-more}
 use Rattle.plan_machine.specs.Settle.{AreShards, AreFreed, journals_of}
-use Rattle.plan_machine.proofs.Freed.{all-freed, all-before}
+use Rattle.plan_machine.proofs.Callers.{all-freed, all-before}
 use Rattle.memo_shards.specs.KeptShards.{KeptShard}
 use Rattle.plan_core.specs.Parts.{shards_in}
 use Rattle.circuit_meaning.specs.declared.Run.{Run}

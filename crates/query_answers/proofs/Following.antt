@@ -17,19 +17,17 @@ use Rattle.circuit_meaning.specs.Cells.{cell_at, point_at}
 use Rattle.circuit_meaning.specs.Base.{base_answer}
 use Rattle.circuit_meaning.specs.Need.{IsEvaluable}
 use Rattle.circuit_meaning.specs.Looks.{looked_points}
-use Rattle.circuit_meaning.proofs.BaseCells.{base-answers}
+use Rattle.circuit_meaning.proofs.Callers.{base-answers}
 use Rattle.journal_meaning.specs.declared.batch.Query.{Query}
 use Rattle.journal_meaning.specs.Batches.{Batch}
 use Rattle.journal_meaning.specs.Lawful.{IsLawful}
 use Rattle.journal_meaning.specs.declared.Entry.{Entry}
 use Rattle.session_meaning.specs.Explanations.{Tells, IsBefore}
-use Rattle.plan_machine.proofs.Underway.{contains-cases}
-use Rattle.plan_machine.proofs.Settle.{evaluable-signal}
+use Rattle.plan_machine.proofs.Callers.{contains-cases, evaluable-signal}
 use Rattle.why_proofs.specs.Justified.{base_or, line_at, answer, AreAnswered, IsJustified, AreJustified}
 use Rattle.why_proofs.specs.Laws.{IsTrueLine}
-use Rattle.why_proofs.specs.inner.Known.{IsKnown}
-use Rattle.why_proofs.proofs.Sound.{AreRight, answer-right, rule-right}
-use Rattle.why_proofs.proofs.Sources.{known-all}
+use Rattle.why_proofs.specs.Known.{IsKnown}
+use Rattle.why_proofs.proofs.Callers.{AreRight, answer-right, rule-right, known-all}
 use Rattle.query_answers.specs.declared.explanations.waiting.LinePlace.{LinePlace}
 use Rattle.query_answers.specs.declared.explanations.waiting.Asked.{Asked}
 use Rattle.query_answers.specs.explanations.inner.Waiting.{Places}

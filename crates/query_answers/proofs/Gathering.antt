@@ -12,18 +12,16 @@ use Rattle.circuit_meaning.specs.Circuit.{Circuit}
 use Rattle.circuit_meaning.specs.Cells.{span, cell_at, point_at}
 use Rattle.circuit_meaning.specs.Need.{IsEvaluable}
 use Rattle.circuit_meaning.specs.Looks.{looked_points}
-use Rattle.circuit_meaning.proofs.Cover.{cell-covers}
+use Rattle.circuit_meaning.proofs.Callers.{cell-covers}
 use Rattle.journal_meaning.specs.declared.batch.Query.{Query}
 use Rattle.journal_meaning.specs.Batches.{Batch, IsNeededBy}
 use Rattle.journal_meaning.specs.Lawful.{IsLawful}
 use Rattle.journal_meaning.specs.declared.Entry.{Entry}
-use Rattle.journal_meaning.proofs.Lists.{contains-one}
+use Rattle.journal_meaning.proofs.Callers.{contains-one}
 use Rattle.session_meaning.specs.Explanations.{IsBefore}
 use Rattle.design.specs.PinWalks.{IsPoint}
-use Rattle.plan_machine.proofs.Steps.{wanted-time}
-use Rattle.plan_machine.proofs.Settle.{evaluable-signal, child-needed}
-use Rattle.plan_machine.proofs.Underway.{contains-cases, contains-none}
-use Rattle.why_proofs.proofs.Sound.{steady}
+use Rattle.plan_machine.proofs.Callers.{wanted-time, evaluable-signal, child-needed, contains-cases, contains-none}
+use Rattle.why_proofs.proofs.Callers.{steady}
 use Rattle.query_answers.specs.declared.explanations.waiting.LinePlace.{LinePlace}
 use Rattle.query_answers.specs.declared.explanations.waiting.Asked.{Asked}
 use Rattle.query_answers.specs.explanations.inner.Waiting.{IsBelow, line_of, point_of, place_of, Places, TakesLast}

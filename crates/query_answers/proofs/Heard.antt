@@ -8,15 +8,13 @@ use Rattle.journal_meaning.specs.declared.Entry.{Entry}
 use Rattle.journal_meaning.specs.declared.Entry.TheVariants.{Filled}
 use Rattle.journal_meaning.specs.Answers.{IsCovered}
 use Rattle.journal_meaning.specs.Grown.{GrowsBy}
-use Rattle.journal_meaning.proofs.Grown.{covered-kept, children-kept}
+use Rattle.journal_meaning.proofs.Callers.{covered-kept, children-kept}
 use Rattle.journal_meaning.specs.Batches.{Batch}
 use Rattle.journal_meaning.specs.Lawful.{IsLawful}
-use Rattle.plan_machine.specs.inner.Settle.{IsVisited, IsDrop}
+use Rattle.plan_machine.specs.Standings.{IsVisited, IsDrop}
 use Rattle.plan_machine.specs.Settle.{AreShards, AreFreed}
 use Rattle.plan_machine.specs.Settling.{fills_of}
-use Rattle.plan_machine.proofs.Freed.{all-freed}
-use Rattle.plan_machine.proofs.Settling.{fills-each}
-use Rattle.plan_machine.proofs.Underway.{each-contains}
+use Rattle.plan_machine.proofs.Callers.{all-freed, fills-each, each-contains}
 use Rattle.memo_shards.specs.KeptShards.{KeptShard}
 use Rattle.plan_core.specs.InTurn.{AllChildrenCovered}
 use Rattle.plan_core.specs.Parts.{shards_in}

@@ -4,7 +4,7 @@ use Rattle.std.proofs.lemmas.List.{length-set}
 use Rattle.std.proofs.lemmas.List.Elements.{All-contains, All-from_recursion}
 use Rattle.valid_intervals.specs.declared.SignalCell.{SignalCell}
 use Rattle.circuit_meaning.specs.Circuit.{Circuit, Input}
-use Rattle.circuit_meaning.proofs.Alike.{held-fits}
+use Rattle.circuit_meaning.proofs.Callers.{held-fits}
 use Rattle.journal_meaning.specs.declared.batch.Query.{Query}
 use Rattle.journal_meaning.specs.Batches.{Batch, Site}
 use Rattle.journal_meaning.specs.Lawful.{IsLawful}

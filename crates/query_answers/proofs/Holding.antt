@@ -4,9 +4,9 @@ use Rattle.std.proofs.lemmas.Option.{none-some}
 use Rattle.valid_intervals.specs.declared.Point.{Point}
 use Rattle.circuit_meaning.specs.Circuit.{Circuit, IsCircuit}
 use Rattle.journal_meaning.specs.States.{Claim, holder, without_point}
-use Rattle.journal_meaning.proofs.Claims.{cases_point, claim-here, claim-other, holder-without, without-other, no-claims}
+use Rattle.journal_meaning.proofs.Callers.{cases_point, claim-here, claim-other, holder-without, without-other, no-claims}
 use Rattle.plan_machine.specs.Strands.{Frame, rest, stack_heard, IsOnStack, IsChain}
-use Rattle.plan_machine.proofs.Stacks.{IsTop, held-heard, heard-held, held-rest, rest-held, top-once}
+use Rattle.plan_machine.proofs.Callers.{IsTop, held-heard, heard-held, held-rest, rest-held, top-once}
 
 -- claims of one query, and a stack
 pub record Holds (number : ℕ) (claims : List Claim) (st : List Frame) : Type 0 where

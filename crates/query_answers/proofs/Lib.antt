@@ -1,12 +1,12 @@
-pub mod Filled
-pub mod Heard
-pub mod Pins
-pub mod Phases
-pub mod Turns
-pub mod Finished
-pub mod Pieces
-pub mod Finding
-pub mod Lawful
+mod Filled
+mod Heard
+mod Pins
+mod Phases
+mod Turns
+mod Finished
+mod Pieces
+mod Finding
+mod Lawful
 mod Walks
 mod Answering
 mod Asking
@@ -25,3 +25,4 @@ mod Steps
 mod Resting
 mod StuckWalks
 mod Sites
+pub mod Callers

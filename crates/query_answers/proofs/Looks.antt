@@ -5,7 +5,7 @@ use Rattle.valid_intervals.specs.declared.Cell.{Cell}
 use Rattle.valid_intervals.specs.declared.Point.{Point}
 use Rattle.circuit_meaning.specs.Circuit.{Circuit}
 use Rattle.journal_meaning.specs.declared.Entry.{Entry}
-use Rattle.journal_meaning.proofs.Lists.{each-append, each-imply}
+use Rattle.journal_meaning.proofs.Callers.{each-append, each-imply}
 use Rattle.query_answers.specs.declared.explanations.waiting.LinePlace.{LinePlace}
 use Rattle.query_answers.specs.declared.explanations.waiting.Asked.{Asked}
 use Rattle.query_answers.specs.explanations.inner.Waiting.{point_of, place_of, Places, Adds}

@@ -6,15 +6,14 @@ use Rattle.valid_intervals.specs.declared.Point.{Point}
 use Rattle.valid_intervals.specs.Cells.{cell_for}
 use Rattle.circuit_meaning.specs.Circuit.{Circuit}
 use Rattle.circuit_meaning.specs.Forced.{IsFree}
-use Rattle.journal_meaning.proofs.Lists.{contains-one}
+use Rattle.journal_meaning.proofs.Callers.{contains-one, count-append}
 use Rattle.journal_meaning.specs.Batches.{Site}
 use Rattle.journal_meaning.specs.declared.Entry.{Entry}
 use Rattle.journal_meaning.specs.declared.Entry.TheVariants.{Told, Claimed, Filled, Evicted, Dropped, Spent}
 use Rattle.journal_meaning.specs.Answers.{Says, IsCovered, is_fill_of}
 use Rattle.journal_meaning.specs.Grown.{IsSaid}
-use Rattle.journal_meaning.proofs.Grown.{count-append}
-use Rattle.valid_intervals.proofs.PointOrder.{point-is}
-use Rattle.why_proofs.proofs.Sound.{covers-from}
+use Rattle.valid_intervals.proofs.Callers.{point-is}
+use Rattle.why_proofs.proofs.Callers.{covers-from}
 use Rattle.session_meaning.specs.StuckSignals.{stuck_circuit, IsCoveredBy}
 use Rattle.query_answers.specs.stuck.inner.Both.{IsHeardThere, Mirrors, AreKept}
 

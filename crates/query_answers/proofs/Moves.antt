@@ -6,7 +6,7 @@ use Rattle.std.proofs.lemmas.List.Elements.{All-contains, recursion_from_All}
 use Rattle.gate_values.specs.declared.Kind.{Kind}
 use Rattle.gate_values.specs.declared.Kind.TheVariants.{Dff}
 use Rattle.gate_values.specs.Gates.{decides, up_to_first}
-use Rattle.gate_values.proofs.Looked.{cut_alike, map-up_to_first}
+use Rattle.gate_values.proofs.Callers.{cut_alike, map-up_to_first}
 use Rattle.valid_intervals.specs.declared.Cell.{Cell}
 use Rattle.valid_intervals.specs.declared.Point.{Point}
 use Rattle.valid_intervals.specs.Spans.{Span, IsIn, from_to}
@@ -19,15 +19,10 @@ use Rattle.circuit_meaning.specs.Base.{base_answer}
 use Rattle.circuit_meaning.specs.Need.{HasChildren, IsEvaluable, children}
 use Rattle.circuit_meaning.specs.Looks.{kind_of, pin_point, flop_points, pin_points_at, sees, looked_points}
 use Rattle.circuit_meaning.specs.Laws.{look, Pins, Edge}
-use Rattle.circuit_meaning.proofs.Equations.{span_is}
-use Rattle.circuit_meaning.proofs.Points.{children-earlier}
-use Rattle.circuit_meaning.proofs.Cover.{cell-covers}
-use Rattle.circuit_meaning.proofs.Steady.{in_all, all_map, cell-steady, gate_span-late, pin_span-early, pin_span-late}
-use Rattle.circuit_meaning.proofs.BaseCells.{base-answers}
-use Rattle.circuit_meaning.proofs.Looking.{sees-source, children-somes}
+use Rattle.circuit_meaning.proofs.Callers.{span_is, children-earlier, cell-covers, in_all, all_map, cell-steady, gate_span-late, pin_span-early, pin_span-late, base-answers, sees-source, children-somes}
 use Rattle.std.specs.Prelude.{MatchOption}
-use Rattle.journal_meaning.proofs.Windows.{covered-cell}
-use Rattle.plan_core.proofs.Pins.{somes-has}
+use Rattle.journal_meaning.proofs.Callers.{covered-cell}
+use Rattle.plan_core.proofs.Callers.{somes-has}
 
 -- the source of a pin at another time: none where there was none, or else a point of the same cell
 abbrev pub IsMoved : Circuit → Option Point → Option Point → Type 0

@@ -12,18 +12,15 @@ use Rattle.journal_meaning.specs.declared.batch.Query.{Query}
 use Rattle.journal_meaning.specs.Answers.{IsCovered, fill_count}
 use Rattle.journal_meaning.specs.Batches.{Batch, IsNeededBy}
 use Rattle.journal_meaning.specs.Grown.{IsFor, GrowsBy}
-use Rattle.journal_meaning.specs.inner.Grown.{IsForOther}
-use Rattle.journal_meaning.proofs.Lists.{Each, each-imply}
-use Rattle.journal_meaning.proofs.Grown.{for-other, filled-more, others-filled, added-none, added-more, grows-none}
+use Rattle.journal_meaning.specs.Listed.{IsForOther}
+use Rattle.journal_meaning.proofs.Callers.{Each, each-imply, for-other, filled-more, others-filled, added-none, added-more, grows-none}
 use Rattle.journal_meaning.specs.Lawful.{IsLawful}
 use Rattle.plan_machine.specs.Shards.{Shard}
 use Rattle.plan_machine.specs.Sound.{IsFresh}
-use Rattle.plan_machine.specs.inner.Settle.{IsStanding, StandsAs, Advances, IsVisited, IsOpen, AreVisited, IsCoveredTo, SettlesQuery}
+use Rattle.plan_machine.specs.Standings.{IsStanding, StandsAs, Advances, IsVisited, IsOpen, AreVisited, IsCoveredTo, SettlesQuery}
 use Rattle.plan_machine.specs.Settle.{AreAllSettled, journals_of, entries_in, charge_of}
 use Rattle.plan_machine.specs.Settling.{fills_of}
-use Rattle.plan_machine.proofs.Underway.{contains-none}
-use Rattle.plan_machine.proofs.Settle.{all-push, begins-query, stays, ends-query, open-kept, visited-kept, settled-kept, opens-kept, all-kept}
-use Rattle.plan_machine.proofs.Settling.{fills-has, fills-each, needed-by}
+use Rattle.plan_machine.proofs.Callers.{contains-none, all-push, begins-query, stays, ends-query, open-kept, visited-kept, settled-kept, opens-kept, all-kept, fills-has, fills-each, needed-by}
 use Rattle.circuit_meaning.specs.declared.Run.{Run}
 use Rattle.reply_lines.specs.declared.reply.Outcome.{Outcome}
 use Rattle.reply_lines.specs.Replies.{is_budget}
@@ -32,7 +29,7 @@ use Rattle.plan_core.specs.InTurn.{AllChildrenCovered}
 use Rattle.plan_core.specs.Parts.{shards_in}
 use Rattle.query_answers.specs.declared.windows.answers.Fed.{Fed}
 use Rattle.plan_core.specs.asked.Memos.{entries_of}
-use Rattle.plan_core.specs.asked.inner.Standings.{live, standing}
+use Rattle.plan_core.specs.asked.Standings.{live, standing}
 use Rattle.query_answers.specs.windows.inner.Phases.{IsFed, IsFedWith, AreAllFed, FeedsQuery, IsFeeding, IsWalking}
 use Rattle.query_answers.specs.windows.Phases.{IsOutcomeFor, AreOutcomes, refused_of}
 use Rattle.query_answers.proofs.Filled.{fills-count}

@@ -3,20 +3,19 @@ use Rattle.std.proofs.Common.{◌≡◌, ℕ, ◌≤◌, List, get_or, Contains,
 use Rattle.valid_intervals.specs.declared.Point.{Point}
 use Rattle.circuit_meaning.specs.Circuit.{Circuit}
 use Rattle.circuit_meaning.specs.Need.{IsEvaluable, children}
-use Rattle.circuit_meaning.proofs.Looking.{children-somes}
+use Rattle.circuit_meaning.proofs.Callers.{children-somes}
 use Rattle.journal_meaning.specs.declared.Entry.{Entry}
 use Rattle.journal_meaning.specs.declared.batch.Query.{Query}
 use Rattle.journal_meaning.specs.Answers.{IsCovered}
 use Rattle.journal_meaning.specs.Batches.{Batch, IsNeededBy, NeedOf, window_of}
 use Rattle.journal_meaning.specs.Lawful.{IsLawful}
 use Rattle.journal_meaning.specs.Pieces.{IsStart}
-use Rattle.plan_machine.specs.inner.Settle.{IsAskedFor}
+use Rattle.plan_machine.specs.Standings.{IsAskedFor}
 use Rattle.plan_machine.specs.Settle.{child_start, root_start, charge_of}
-use Rattle.plan_machine.proofs.Steps.{wanted-time}
-use Rattle.plan_machine.proofs.Settle.{evaluable-signal, child-start, child-needed, child-asked, root-asked}
+use Rattle.plan_machine.proofs.Callers.{wanted-time, evaluable-signal, child-start, child-needed, child-asked, root-asked}
 use Rattle.design.specs.PinWalks.{IsPoint, looked_at}
-use Rattle.plan_core.specs.asked.inner.Sources.{IsSourceCovered}
-use Rattle.plan_core.proofs.Pins.{somes-has, needed-evaluable}
+use Rattle.plan_core.specs.asked.Sources.{IsSourceCovered}
+use Rattle.plan_core.proofs.Callers.{somes-has, needed-evaluable}
 
 -- a pin that is looked at reads a child
 pub source-child : (c : Circuit) (p x : Point) (n : ℕ) → get_or (looked_at c p) n None ≡ Some x → Contains (children c p.signal p.time) x

@@ -16,26 +16,21 @@ use Rattle.journal_meaning.specs.declared.Entry.TheVariants.{Filled, Dropped, Sp
 use Rattle.journal_meaning.specs.Answers.{IsCovered, IsSpent, is_fill_of, fill_count, last_of}
 use Rattle.journal_meaning.specs.Grown.{IsFor, is_spent_of, refusals}
 use Rattle.journal_meaning.specs.States.{Claim, without_point}
-use Rattle.journal_meaning.proofs.Grown.{grows-none, count-append}
-use Rattle.journal_meaning.proofs.Lists.{each-append, each-left, each-right, pairs_from, pairs_to}
+use Rattle.journal_meaning.proofs.Callers.{grows-none, count-append, each-append, each-left, each-right, pairs_from, pairs_to}
 use Rattle.plan_machine.specs.declared.strand.Next.TheVariants.{Fill, Drop, Done}
 use Rattle.plan_machine.specs.Strands.{Frame, Strand, next, next_in, ask_or, started_strand, roots_from, is_evaluable, after_drop, IsStrand, IsChain, rest}
-use Rattle.plan_machine.proofs.Stacks.{drop-top}
+use Rattle.plan_machine.proofs.Callers.{drop-top, has-ended, begins-query, contains-none, each-contains, none-refused, children-covered, roots-covered, evaluable-is, goes-dropped, refused-last, gone-last, refused-filled, refused-once, refused-own, differ-left}
 use Rattle.plan_machine.specs.Alone.{IsUnderWay, IsUnspent, IsGivingUp, IsRefusedAlone, IsDue, points_on, drops, roots_of}
 use Rattle.plan_machine.specs.Shards.{Shard}
 use Rattle.plan_machine.specs.Settle.{charge_of, root_start}
-use Rattle.plan_machine.specs.inner.Settle.{IsOpen}
-use Rattle.plan_machine.proofs.Ready.{has-ended}
-use Rattle.plan_machine.proofs.Settle.{begins-query}
-use Rattle.plan_machine.proofs.Underway.{contains-none, each-contains, none-refused, children-covered, roots-covered, evaluable-is}
-use Rattle.plan_machine.proofs.GivingUp.{goes-dropped, refused-last, gone-last, refused-filled, refused-once, refused-own, differ-left}
+use Rattle.plan_machine.specs.Standings.{IsOpen}
 use Rattle.plan_core.specs.Parts.{shards_in}
 use Rattle.demand_points.specs.Demands.{Demand, IsLastHeard, IsKnownStrand, roots_left}
 use Rattle.memo_shards.specs.KeptShards.{KeptShard}
 use Rattle.memo_shards.specs.Ends.{DropsIt}
 use Rattle.plan_core.specs.asked.Asked.{AsksOn}
 use Rattle.plan_core.specs.asked.Memos.{AreFreeShards, at_time, entries_of}
-use Rattle.plan_core.proofs.AskedLists.{each-from}
+use Rattle.plan_core.proofs.Callers.{each-from}
 use Rattle.session_meaning.specs.StuckSignals.{NoneIsFree, IsCoveredBy}
 use Rattle.query_answers.specs.stuck.Asks.{RefusedBy, Neither, Session, Own, is_refused, is_session, IsOutcomeOf, HearsRoot}
 use Rattle.query_answers.specs.declared.stuck.both.StuckQuery.{StuckQuery}

@@ -19,15 +19,13 @@ use Rattle.journal_meaning.specs.States.{holder}
 use Rattle.plan_machine.specs.declared.strand.Next.{Next}
 use Rattle.plan_machine.specs.declared.strand.Next.TheVariants.{Ask, Fill, Drop, Done}
 use Rattle.plan_machine.specs.Strands.{Strand, next, next_in, after_answer, given_up, IsOnStack, IsStrand, IsChain}
-use Rattle.plan_machine.proofs.Stacks.{asks-first, asks-unspent, fill-top, top-held, earlier}
+use Rattle.plan_machine.proofs.Callers.{asks-first, asks-unspent, fill-top, top-held, earlier, room-journal, child-start, child-asked}
 use Rattle.plan_machine.specs.Alone.{IsUnderWay}
 use Rattle.plan_machine.specs.Shards.{Shard, shard_with_entry}
 use Rattle.plan_machine.specs.Bounds.{turns_left}
 use Rattle.plan_machine.specs.Journals.{evictions_for}
 use Rattle.plan_machine.specs.Settle.{child_start, charge_of, sub_query}
-use Rattle.plan_machine.specs.inner.Settle.{IsStanding, IsAskedFor}
-use Rattle.plan_machine.proofs.Journals.{room-journal}
-use Rattle.plan_machine.proofs.Settle.{child-start, child-asked}
+use Rattle.plan_machine.specs.Standings.{IsStanding, IsAskedFor}
 use Rattle.plan_core.specs.Parts.{shards_in}
 use Rattle.demand_points.specs.Demands.{Demand, TakesStep, IsKnownStrand, itself}
 use Rattle.memo_shards.specs.KeptShards.{KeptShard}
@@ -39,9 +37,8 @@ use Rattle.memo_shards.specs.declared.steps.Step.TheVariants as came
 use Rattle.texts.specs.declared.OutOfMemory.{OutOfMemory}
 use Rattle.plan_core.specs.asked.Asked.{HasAsked, AsksOn}
 use Rattle.plan_core.specs.asked.Memos.{entries_of, asked_at}
-use Rattle.plan_core.specs.asked.inner.Standings.{standing}
-use Rattle.plan_core.proofs.AskedCells.{reaches, root-covered}
-use Rattle.plan_core.proofs.Asking.{asks-point}
+use Rattle.plan_core.specs.asked.Standings.{standing}
+use Rattle.plan_core.proofs.Callers.{reaches, root-covered, asks-point}
 use Rattle.session_meaning.specs.StuckSignals.{held_batch}
 use Rattle.query_answers.specs.stuck.Asks.{RefusedBy, Session, Own}
 use Rattle.query_answers.specs.declared.stuck.both.StuckQuery.{StuckQuery}

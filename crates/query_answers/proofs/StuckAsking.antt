@@ -21,30 +21,22 @@ use Rattle.journal_meaning.specs.declared.Entry.TheVariants.{Told, Claimed, Fill
 use Rattle.journal_meaning.specs.Answers.{IsSpent}
 use Rattle.journal_meaning.specs.Grown.{IsSaid, IsFor}
 use Rattle.journal_meaning.specs.States.{Claim, without_point}
-use Rattle.journal_meaning.proofs.Claims.{own-covers}
-use Rattle.journal_meaning.proofs.Lists.{contains-one, pairs_to}
+use Rattle.journal_meaning.proofs.Callers.{own-covers, contains-one, pairs_to}
 use Rattle.plan_machine.specs.declared.strand.Next.TheVariants.{Ask, Fill}
 use Rattle.plan_machine.specs.Strands.{Frame, Strand, next, rest, after_answer, after_claim, given_up, after_fill, asked_children, IsStrand, left_in, IsFirst, IsChain}
-use Rattle.plan_machine.proofs.Stacks.{IsTop, asks-first, fill-top, fill-heard, top-held}
-use Rattle.plan_machine.proofs.Wanted.{held-within}
+use Rattle.plan_machine.proofs.Callers.{IsTop, asks-first, fill-top, fill-heard, top-held, held-within, found, evictions-each, room-journal, told-less, claimed-less, finished-less, IsNoFill, each-contains, none-refused, goes-more, goes-heard, goes-claimed, goes-popped, asked-apart, stack-differ, says-cell}
 use Rattle.plan_machine.specs.Bounds.{turns_left}
 use Rattle.plan_machine.specs.Shards.{Shard, shard_with_entry, shard_without_cell, with_room}
 use Rattle.plan_machine.specs.Journals.{evictions_for}
 use Rattle.plan_machine.specs.Alone.{AreFed, IsUnspent, IsUnderWay, IsGivingUp, points_on}
-use Rattle.plan_machine.specs.inner.Settle.{IsStanding}
-use Rattle.plan_machine.proofs.Shards.{found}
-use Rattle.plan_machine.proofs.Journals.{evictions-each, room-journal}
-use Rattle.plan_machine.proofs.Measure.{told-less, claimed-less, finished-less}
-use Rattle.plan_machine.proofs.Underway.{IsNoFill, each-contains, none-refused, goes-more, goes-heard, goes-claimed, goes-popped}
-use Rattle.plan_machine.proofs.GivingUp.{asked-apart, stack-differ}
-use Rattle.plan_machine.proofs.Alone.{says-cell}
+use Rattle.plan_machine.specs.Standings.{IsStanding}
 use Rattle.demand_points.specs.Demands.{Demand, TakesStep}
 use Rattle.memo_shards.specs.KeptShards.{KeptShard}
 use Rattle.memo_shards.specs.Asks.{Tells, ClaimsIt, Refuses}
 use Rattle.memo_shards.specs.Ends.{with_shard, FillsIt}
 use Rattle.plan_core.specs.asked.Memos.{entries_of}
-use Rattle.plan_core.specs.asked.inner.Standings.{live}
-use Rattle.plan_core.proofs.AskedLists.{each-from}
+use Rattle.plan_core.specs.asked.Standings.{live}
+use Rattle.plan_core.proofs.Callers.{each-from}
 use Rattle.session_meaning.specs.StuckSignals.{held_batch, NoneIsFree}
 use Rattle.query_answers.specs.stuck.Asks.{Session, Own}
 use Rattle.query_answers.specs.declared.stuck.both.StuckQuery.{StuckQuery}

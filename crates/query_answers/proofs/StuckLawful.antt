@@ -6,16 +6,15 @@ use Rattle.circuit_meaning.specs.Circuit.{Circuit, IsCircuit, Input}
 use Rattle.circuit_meaning.specs.Cells.{cell_at}
 use Rattle.circuit_meaning.specs.Forced.{IsFree}
 use Rattle.circuit_meaning.specs.Need.{HasChildren, IsEvaluable, IsNeeded}
-use Rattle.circuit_meaning.proofs.Alike.{free-alike}
-use Rattle.circuit_meaning.proofs.Roots.{needed-before}
-use Rattle.journal_meaning.proofs.Lists.{contains-one}
+use Rattle.circuit_meaning.proofs.Callers.{free-alike, needed-before}
+use Rattle.journal_meaning.proofs.Callers.{contains-one}
 use Rattle.journal_meaning.specs.declared.batch.Query.{Query}
 use Rattle.journal_meaning.specs.Batches.{Batch, Site, NeedOf, IsNeededBy, window_of}
 use Rattle.journal_meaning.specs.Lawful.{IsLawful}
 use Rattle.plan_machine.specs.declared.strand.Next.TheVariants.{Ask}
 use Rattle.plan_machine.specs.Strands.{Strand, next, IsStrand}
-use Rattle.plan_machine.proofs.Wanted.{asks-needed}
-use Rattle.session_meaning.proofs.Narrow.{evaluable-low}
+use Rattle.plan_machine.proofs.Callers.{asks-needed}
+use Rattle.session_meaning.proofs.Callers.{evaluable-low}
 use Rattle.session_meaning.specs.StuckSignals.{stuck_circuit, held_batch}
 use Rattle.query_answers.proofs.Held.{window-within, held-lawful}
 

@@ -7,17 +7,16 @@ use Rattle.valid_intervals.specs.Spans.{Span, IsIn}
 use Rattle.circuit_meaning.specs.Circuit.{Circuit, IsCircuit}
 use Rattle.circuit_meaning.specs.Cells.{span}
 use Rattle.circuit_meaning.specs.Need.{IsRoot, HasChildren, First, Next}
-use Rattle.circuit_meaning.proofs.Alike.{free-alike, held-fits}
-use Rattle.circuit_meaning.proofs.Cover.{cell-covers}
+use Rattle.circuit_meaning.proofs.Callers.{free-alike, held-fits, cell-covers}
 use Rattle.journal_meaning.specs.declared.Entry.{Entry}
 use Rattle.journal_meaning.specs.States.{fresh}
 use Rattle.journal_meaning.specs.Answers.{IsCovered}
-use Rattle.journal_meaning.specs.inner.Grown.{IsRightEntry}
-use Rattle.journal_meaning.proofs.Windows.{covered-cell, right-entries, root-since, root-within}
+use Rattle.journal_meaning.specs.Listed.{IsRightEntry}
+use Rattle.journal_meaning.proofs.Callers.{covered-cell, right-entries, root-since, root-within}
 use Rattle.journal_meaning.specs.declared.batch.Query.{Query}
 use Rattle.journal_meaning.specs.Batches.{Batch, Site, window_of}
 use Rattle.session_meaning.specs.StuckSignals.{stuck_circuit, IsCoveredBy, IsClosedBy}
-use Rattle.plan_machine.proofs.Underway.{each-contains}
+use Rattle.plan_machine.proofs.Callers.{each-contains}
 use Rattle.memo_shards.specs.KeptShards.{KeptShard, IsKnownShard}
 use Rattle.window_walks.specs.Walks.{Walk, IsWalked}
 use Rattle.plan_core.specs.asked.Memos.{at_time}

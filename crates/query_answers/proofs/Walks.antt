@@ -9,11 +9,10 @@ use Rattle.valid_intervals.specs.declared.SignalCell.{SignalCell}
 use Rattle.circuit_meaning.specs.Forward.{value}
 use Rattle.circuit_meaning.specs.Cells.{span}
 use Rattle.circuit_meaning.specs.Need.{IsRoot, IsEvaluable, Root, First}
-use Rattle.circuit_meaning.proofs.Cover.{cell-covers}
-use Rattle.circuit_meaning.proofs.Steady.{cell-steady}
+use Rattle.circuit_meaning.proofs.Callers.{cell-covers, cell-steady}
 use Rattle.journal_meaning.specs.declared.Entry.{Entry}
 use Rattle.journal_meaning.specs.Grown.{AreAdded}
-use Rattle.journal_meaning.proofs.Grown.{grows-none}
+use Rattle.journal_meaning.proofs.Callers.{grows-none}
 use Rattle.journal_meaning.specs.declared.batch.Query.{Query}
 use Rattle.journal_meaning.specs.Batches.{Batch, Site, IsNeededBy, NeedOf, window_of}
 use Rattle.journal_meaning.specs.Lawful.{IsLawful}
@@ -22,16 +21,14 @@ use Rattle.session_meaning.specs.FirstTimes.{stop_at, up_to_first, IsFirstOutcom
 use Rattle.session_meaning.specs.declared.Verdict.TheVariants.{Ask}
 use Rattle.reply_lines.specs.declared.reply.Outcome.TheVariants.{Answer, Budget}
 use Rattle.plan_machine.specs.Settle.{sub_query, child_start, charge_of, journals_of}
-use Rattle.plan_machine.specs.inner.Settle.{IsStanding, IsOpen, IsAskedFor, Reaches, IsCoveredTo}
-use Rattle.plan_machine.proofs.Settle.{child-start, child-asked, begins-query, settles-closed, window-step}
-use Rattle.plan_machine.proofs.Underway.{contains-none}
+use Rattle.plan_machine.specs.Standings.{IsStanding, IsOpen, IsAskedFor, Reaches, IsCoveredTo}
+use Rattle.plan_machine.proofs.Callers.{child-start, child-asked, begins-query, settles-closed, window-step, contains-none}
 use Rattle.memo_shards.specs.KeptShards.{KeptShard}
 use Rattle.plan_core.specs.Parts.{shards_in}
 use Rattle.plan_core.specs.asked.Memos.{AreFreeShards, entries_of, asked_at}
 use Rattle.plan_core.specs.asked.Asked.{HasAsked, AsksOn}
-use Rattle.plan_core.specs.asked.inner.Standings.{live, standing}
-use Rattle.plan_core.proofs.AskedCells.{reaches}
-use Rattle.plan_core.proofs.Asking.{asks-then, asks-point}
+use Rattle.plan_core.specs.asked.Standings.{live, standing}
+use Rattle.plan_core.proofs.Callers.{reaches, asks-then, asks-point}
 use Rattle.query_answers.proofs.Finding.{has, NoneBefore, first-here, first-none, goes-on}
 
 module _ (b : Batch) (opening : ℕ → List SignalCell) (q : Query) (w : Value) where

@@ -19,4 +19,3 @@ pub mod explanations;
 pub mod first_times;
 pub mod stuck;
 pub mod windows;
-

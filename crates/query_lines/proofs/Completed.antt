@@ -7,8 +7,7 @@ use Rattle.std.proofs.lemmas.List.Sums.{count_by-le-length}
 use Rattle.std.proofs.lemmas.List.Splits.{length-slice_split, slice_split-cons_no}
 use Rattle.std.proofs.lemmas.Bool.{ltb-true, ltb-false}
 use Rattle.texts.specs.Text.{is_feed, lines, less_empty_last}
-use Rattle.texts.proofs.Cuts.{keeps_first}
-use Rattle.texts.proofs.Stream.{is_plain}
+use Rattle.texts.proofs.Callers.{keeps_first, is_plain}
 use Rattle.query_lines.specs.declared.line.Line.{Line}
 use Rattle.query_lines.specs.declared.unit.Item.{Item}
 use Rattle.query_lines.specs.declared.unit.Unit.{Unit as ScriptUnit}

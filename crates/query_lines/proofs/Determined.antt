@@ -9,7 +9,7 @@ use Rattle.std.proofs.lemmas.List.Folds.{list_all-append}
 use Rattle.std.proofs.lemmas.List.Elements.{All-head, All-same}
 use Rattle.std.proofs.lemmas.Bool.{le-ltb, lt-leb}
 use Rattle.texts.specs.Text.{is_feed, content, words}
-use Rattle.texts.proofs.Stream.{is_plain, line_last}
+use Rattle.texts.proofs.Callers.{is_plain, line_last}
 use Rattle.query_lines.specs.declared.line.Line.{Line}
 use Rattle.query_lines.specs.declared.line.Line.TheVariants.{Bad}
 use Rattle.query_lines.specs.declared.line.What.TheVariants as whats

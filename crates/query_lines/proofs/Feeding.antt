@@ -6,7 +6,7 @@ use Rattle.std.proofs.lemmas.List.{append-nil, length-append}
 use Rattle.std.proofs.lemmas.List.Elements.{All-tail, All-same}
 use Rattle.query_lines.proofs.OwnLines.{first-part}
 use Rattle.texts.specs.Text.{lines}
-use Rattle.texts.proofs.Stream.{is_plain, line_front, line_last, no_line, plain_push, not_feed}
+use Rattle.texts.proofs.Callers.{is_plain, line_front, line_last, no_line, plain_push, not_feed}
 use Rattle.query_lines.specs.declared.cutter.Cut.{Cut}
 use Rattle.query_lines.specs.declared.unit.Item.{Item}
 use Rattle.query_lines.specs.declared.unit.Unit.{Unit as ScriptUnit}

@@ -1,9 +1,10 @@
-pub mod Feeding
-pub mod Requests
-pub mod Forms
-pub mod Limits
-pub mod Names
-pub mod OwnLines
-pub mod Determined
-pub mod Completed
+mod Feeding
+mod Requests
+mod Forms
+mod Limits
+mod Names
+mod OwnLines
+mod Determined
+mod Completed
 mod Rows
+pub mod Callers

@@ -1,6 +1,6 @@
 -- The value of a signal by what drives it.
 use Rattle.std.proofs.Common.{◌≡◌, ℕ, ◌-◌, ◌<◌, ◌≤◌, List, [], ◌∷◌, map, length, get_or, take, set, ◌+◌, ◌++◌, Vec, Global, Option, Some, None, refl, sym, ap, ◌∙◌, subst, arith, lt-ltb, le-ltb, take_all}
-use Rattle.gate_values.proofs.Pins.{allows-few}
+use Rattle.gate_values.proofs.Callers.{allows-few}
 use Rattle.gate_values.specs.declared.Value.{Value}
 use Rattle.gate_values.specs.declared.Value.TheVariants.{X}
 use Rattle.gate_values.specs.declared.Kind.{Kind}
@@ -8,8 +8,7 @@ use Rattle.gate_values.specs.Gates.{gate_value}
 use Rattle.circuit_meaning.specs.Circuit.{Input, Gate, Flop, Circuit, IsCircuit, IsDriver, driver}
 use Rattle.circuit_meaning.specs.Forward.{value, value_from, seen_value, flop_value, input_value, last_setting}
 use Rattle.circuit_meaning.specs.Edges.{shown_edge}
-use Rattle.circuit_meaning.proofs.EdgeLemmas.{shown_edge-le}
-use Rattle.circuit_meaning.proofs.Equations.{value_is, driver_fits}
+use Rattle.circuit_meaning.proofs.Callers.{shown_edge-le, value_is, driver_fits}
 use Rattle.reference_simulator.specs.declared.Element.{Element}
 use Rattle.reference_simulator.specs.declared.Element.TheVariants.{Input as InputElement, Gate as GateElement, Flop as FlopElement}
 use Rattle.circuit_meaning.specs.declared.Setting.{Setting}

@@ -6,8 +6,7 @@ use Rattle.query_lines.specs.declared.unit.Unit.TheVariants.{Vcd}
 use Rattle.reply_lines.specs.Replies.{vcd_line}
 use Rattle.session_meaning.specs.Session.{Setup, Course, IsServed, Session, Served, with_vcd}
 use Rattle.session_meaning.specs.Broken.{IsPrefix, journal_of, AreBegun, IsUntouched, IsFirstBegun, IsBroken, IsBrokenInJournal, IsBrokenInDump}
-use Rattle.session_meaning.proofs.Journals.{prefix-same}
-use Rattle.session_meaning.proofs.Dumps.{vcd-replies, vcd-journal, vcd-longer}
+use Rattle.session_meaning.proofs.Callers.{prefix-same, vcd-replies, vcd-journal, vcd-longer}
 use Rattle.session_loop.specs.declared.stop.JournalStop.{JournalStop}
 use Rattle.session_loop.specs.declared.stop.JournalStop.TheVariants as journal
 use Rattle.session_loop.specs.declared.stop.RepliesStop.{RepliesStop}

@@ -23,8 +23,7 @@ use Rattle.vcd_answers.specs.Dumps.{vcd_of}
 use Rattle.session_meaning.specs.Dumps.{wires_of}
 use Rattle.session_meaning.specs.Session.{Setup, Course, IsServed, Served, is_taken, with_reply, with_dump, with_last, with_vcd}
 use Rattle.session_meaning.specs.Broken.{IsPrefix, journal_of, AreBegun, IsBroken, IsBrokenInDump}
-use Rattle.session_meaning.proofs.Journals.{prefix-same, prefix-more, prefix-behind}
-use Rattle.session_meaning.proofs.Dumps.{begun-same, begun-one, begun-less}
+use Rattle.session_meaning.proofs.Callers.{prefix-same, prefix-more, prefix-behind, begun-same, begun-one, begun-less}
 use Rattle.session_loop.specs.declared.desk.Desk.{Desk}
 use Rattle.session_loop.specs.declared.desk.Dumps.{Dumps}
 use Rattle.session_loop.specs.declared.desk.LastBatch.{LastBatch}

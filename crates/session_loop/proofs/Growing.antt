@@ -6,9 +6,9 @@ use Rattle.backsim_io.specs.Counts.{Grows, GrowsByPrefix}
 use Rattle.texts.specs.Made.{Made}
 use Rattle.backsim_io.specs.FilesInMemory.{files_with, FileGrows, FileGrowsByPrefix}
 use Rattle.backsim_io.specs.State.{FilesState}
-use Rattle.backsim_io.proofs.Grown.{grown_twice, grown_none}
+use Rattle.backsim_io.proofs.Callers.{grown_twice, grown_none}
 use Rattle.session_meaning.specs.Broken.{IsPrefix}
-use Rattle.session_meaning.proofs.Journals.{prefix-again}
+use Rattle.session_meaning.proofs.Callers.{prefix-again}
 use Rattle.session_loop.specs.declared.stop.JournalStop.{JournalStop}
 use Rattle.session_loop.specs.declared.stop.RepliesStop.{RepliesStop}
 use Rattle.session_loop.specs.Halting.{session_files}

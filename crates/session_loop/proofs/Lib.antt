@@ -1,13 +1,14 @@
-pub mod Growing
-pub mod Changes
-pub mod Breaking
-pub mod Served
-pub mod Units
-pub mod Questions
-pub mod Taken
-pub mod Scripts
-pub mod Files
-pub mod Pieces
-pub mod WorkDone
-pub mod EmptyStores
-pub mod Dumping
+mod Growing
+mod Changes
+mod Breaking
+mod Served
+mod Units
+mod Questions
+mod Taken
+mod Scripts
+mod Files
+mod Pieces
+mod WorkDone
+mod EmptyStores
+mod Dumping
+pub mod Callers

@@ -27,7 +27,7 @@ use Rattle.session_meaning.specs.Session.{Setup, Course, IsServed, question_batc
 use Rattle.session_meaning.specs.Questions.{IsOwnMemo}
 use Rattle.session_meaning.specs.StuckSignals.{held_batch, IsHeldMemo}
 use Rattle.session_meaning.specs.Broken.{journal_of}
-use Rattle.session_meaning.proofs.Journals.{journal-more}
+use Rattle.session_meaning.proofs.Callers.{journal-more}
 use Rattle.session_loop.specs.declared.desk.Counts.{Counts}
 use Rattle.session_loop.specs.declared.desk.Desk.{Desk}
 use Rattle.session_loop.specs.declared.desk.Dumps.{Dumps}

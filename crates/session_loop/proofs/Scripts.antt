@@ -10,7 +10,7 @@ use Rattle.backsim_io.specs.FilesInMemory.{ConsumesUpTo}
 use Rattle.query_lines.specs.declared.unit.Unit.{Unit as ScriptUnit}
 use Rattle.query_lines.specs.Reading.{script_units, completed_units}
 use Rattle.query_lines.specs.Readers.{HasRead}
-use Rattle.query_lines.proofs.Completed.{given-completed}
+use Rattle.query_lines.proofs.Callers.{given-completed}
 use Rattle.session_meaning.specs.Session.{Setup, Opened, first_course, IsSession}
 use Rattle.session_meaning.specs.Broken.{journal_of, IsCutOff}
 use Rattle.session_loop.specs.declared.desk.Desk.{Desk}

@@ -31,8 +31,7 @@ use Rattle.session_meaning.specs.Session.{Setup, Course, IsServed, Session, Serv
 use Rattle.session_meaning.specs.Verdicts.{verdict_of}
 use Rattle.session_meaning.specs.Broken.{IsPrefix, journal_of, IsBroken, IsBrokenInJournal}
 use Rattle.session_meaning.specs.Dumps.{wires_of}
-use Rattle.session_meaning.proofs.Journals.{journal-more, prefix-same, prefix-more, prefix-behind}
-use Rattle.session_meaning.proofs.Dumps.{begun-same}
+use Rattle.session_meaning.proofs.Callers.{journal-more, prefix-same, prefix-more, prefix-behind, begun-same}
 use Rattle.vcd_answers.specs.Wires.{Wire}
 use Rattle.session_loop.specs.declared.desk.Counts.{Counts}
 use Rattle.session_loop.specs.declared.desk.Desk.{Desk}
@@ -52,7 +51,7 @@ use Rattle.session_loop.specs.inner.Growing.{FilesGoOn, GrowsPart, FileGrowsPart
 use Rattle.unit_answers.specs.Stores.{AreStores, cells_of}
 use Rattle.unit_answers.specs.Done.{IsBatchDone, IsTrimDone}
 use Rattle.unit_answers.specs.Dumps.{IsOwnWave}
-use Rattle.unit_answers.proofs.Dumping.{done-waves}
+use Rattle.unit_answers.proofs.Callers.{done-waves}
 use Rattle.session_loop.specs.inner.Desks.{IsCount, IsCounted, batches_in, counted_lists, Shows, KeepsDumps, IsShowable, IsDesk, IsReady, Keeps}
 use Rattle.session_loop.specs.inner.Telling.{OfReplies, OfJournal, WritesAll, WritesPart, Tells, TellsBatch}
 use Rattle.session_loop.specs.inner.Serving.{ServedTo, Within, StoppedIn, Serves, Stops, StopsAfter, UnitsServed, UnitsStopped, ServesUnits, ServesInPlace}

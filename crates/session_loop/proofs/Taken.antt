@@ -6,7 +6,7 @@ use Rattle.std.proofs.lemmas.List.{take_more, take_all, take-append-drop}
 use Rattle.query_lines.specs.declared.unit.Unit.{Unit as ScriptUnit}
 use Rattle.query_lines.specs.Readers.{Reader, HasRead}
 use Rattle.query_lines.specs.Fit.{IsFit}
-use Rattle.query_lines.proofs.OwnLines.{units-fit, given-fit, last-fit}
+use Rattle.query_lines.proofs.Callers.{units-fit, given-fit, last-fit}
 use Rattle.session_loop.specs.declared.desk.Desk.{Desk}
 use Rattle.session_loop.specs.declared.script.Script.{Script}
 use Rattle.session_loop.specs.declared.service.Service.{Service}

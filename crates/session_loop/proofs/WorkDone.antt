@@ -15,7 +15,7 @@ use Rattle.session_meaning.specs.Replies.{replies_text}
 use Rattle.session_meaning.specs.Dumps.{wires_of}
 use Rattle.session_meaning.specs.Session.{Setup, Course, Opened, first_course, batch_of, with_section, with_waves, IsBatchServed}
 use Rattle.session_meaning.specs.Broken.{IsPrefix, journal_of}
-use Rattle.session_meaning.proofs.Journals.{journal-more, prefix-behind}
+use Rattle.session_meaning.proofs.Callers.{journal-more, prefix-behind}
 use Rattle.unit_answers.specs.Stores.{cells_of}
 use Rattle.unit_answers.specs.Done.{IsBatchDone}
 use Rattle.session_loop.specs.declared.halt.JournalHalt.{JournalHalt}

@@ -5,7 +5,7 @@ use Rattle.std.proofs.lemmas.List.Elements.{All-head}
 use Rattle.valid_intervals.specs.declared.Cell.{Cell}
 use Rattle.valid_intervals.specs.declared.SignalCell.{SignalCell}
 use Rattle.circuit_meaning.specs.Circuit.{Circuit, IsCircuit, AreLimits}
-use Rattle.circuit_meaning.proofs.Cover.{cell-covers}
+use Rattle.circuit_meaning.proofs.Callers.{cell-covers}
 use Rattle.texts.specs.Text.{is_name}
 use Rattle.query_lines.specs.declared.line.Asks.{Asks}
 use Rattle.query_lines.specs.declared.line.Asks.TheVariants as kinds
@@ -13,7 +13,7 @@ use Rattle.query_lines.specs.declared.line.Window.{Window}
 use Rattle.query_lines.specs.declared.unit.Unit.{Unit as ScriptUnit}
 use Rattle.query_lines.specs.declared.unit.Unit.TheVariants as units
 use Rattle.query_lines.specs.Fit.{IsFit}
-use Rattle.query_lines.proofs.OwnLines.{first-part, later-part}
+use Rattle.query_lines.proofs.Callers.{first-part, later-part}
 use Rattle.design.specs.Joined.{Joined, IsDesign}
 use Rattle.reply_lines.specs.declared.reply.QuestionReply.{QuestionReply}
 use Rattle.reply_lines.specs.declared.reply.QuestionReply.TheVariants as told
@@ -26,8 +26,7 @@ use Rattle.why_proofs.specs.Justified.{IsJustified, AreJustified, IsJustifiedPro
 use Rattle.why_proofs.specs.Laws.{IsTrueLine}
 use Rattle.why_proofs.specs.Verdicts.{IsTextOf}
 use Rattle.why_proofs.specs.declared.checker.Checked.TheVariants.{Yes}
-use Rattle.why_proofs.proofs.Sound.{each-true}
-use Rattle.why_proofs.proofs.Fixed.{verdict-fixed}
+use Rattle.why_proofs.proofs.Callers.{each-true, verdict-fixed}
 use Rattle.journal_meaning.specs.declared.Entry.{Entry}
 use Rattle.journal_meaning.specs.Sections.{of_batch}
 use Rattle.session_meaning.specs.declared.Verdict.{Verdict}

@@ -2,14 +2,14 @@
 use Rattle.std.proofs.Common.{◌≡◌, ℕ, List, [], ◌∷◌, ◌++◌, length, All, Option, Some, None, refl, sym, ap, subst, ◌∙◌, append-nil}
 use Rattle.std.proofs.lemmas.List.Elements.{All-nil, All-cons, All-push, All-weaker, recursion_from_All}
 use Rattle.circuit_meaning.specs.Circuit.{Circuit, IsCircuit}
-use Rattle.circuit_meaning.proofs.Alike.{held-fits}
+use Rattle.circuit_meaning.proofs.Callers.{held-fits}
 use Rattle.journal_meaning.specs.Batches.{Batch, Site}
 use Rattle.journal_meaning.specs.declared.Entry.{Entry}
 use Rattle.journal_meaning.specs.Replay.{IsLegalBatch}
 use Rattle.journal_meaning.specs.Sections.{Asks, Trims, Forces, SectionEntries, AreLegal, joined_entries}
 use Rattle.journal_meaning.specs.Laws.{OfCircuit}
-use Rattle.journal_meaning.proofs.Counted.{counts-add}
-use Rattle.journal_meaning.proofs.BetweenFills as between_fills
+use Rattle.journal_meaning.proofs.Callers.{counts-add}
+use Rattle.journal_meaning.proofs.Callers as between_fills
 use Rattle.query_lines.specs.declared.unit.Unit.{Unit as ScriptUnit}
 use Rattle.query_lines.specs.declared.unit.Unit.TheVariants as units
 use Rattle.session_meaning.specs.declared.Verdict.{Verdict}

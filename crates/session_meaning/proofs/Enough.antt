@@ -6,7 +6,7 @@ use Rattle.valid_intervals.specs.declared.SignalCell.{SignalCell}
 use Rattle.circuit_meaning.specs.Circuit.{Circuit, IsCircuit}
 use Rattle.circuit_meaning.specs.Forward.{wave}
 use Rattle.circuit_meaning.specs.declared.Run.{Run}
-use Rattle.circuit_meaning.proofs.Alike.{held-fits}
+use Rattle.circuit_meaning.proofs.Callers.{held-fits}
 use Rattle.journal_meaning.specs.declared.batch.Query.{Query}
 use Rattle.journal_meaning.specs.Batches.{Batch, Site, NeedOf}
 use Rattle.journal_meaning.specs.declared.Entry.{Entry}
@@ -14,7 +14,7 @@ use Rattle.journal_meaning.specs.Laws.{IsOwnQuery, IsRoomy, IsLegalFrom, NeedsAt
 use Rattle.journal_meaning.specs.Replay.{IsLegalBatch}
 use Rattle.journal_meaning.specs.Sections.{of_batch, cells_after}
 use Rattle.journal_meaning.specs.Answers.{IsAnswer, IsSpent}
-use Rattle.journal_meaning.proofs.Budgets.{enough-budget}
+use Rattle.journal_meaning.proofs.Callers.{enough-budget}
 use Rattle.gate_values.specs.declared.Value.{Value}
 use Rattle.query_lines.specs.declared.line.Asks.{Asks}
 use Rattle.query_lines.specs.declared.line.Asks.TheVariants as kinds
@@ -38,7 +38,7 @@ use Rattle.session_meaning.specs.FirstTimes.{first_time, up_to_first, IsFirstOut
 use Rattle.session_meaning.specs.Explanations.{IsWhyOutcome}
 use Rattle.session_meaning.specs.StuckSignals.{stuck_circuit, held_batch, IsStuckReply, IsHeldMemo}
 use Rattle.session_meaning.specs.Questions.{queries_at, kind_queries, IsRightBy, IsOwnMemo}
-use Rattle.query_lines.proofs.OwnLines.{first-part, later-part}
+use Rattle.query_lines.proofs.Callers.{first-part, later-part}
 use Rattle.session_meaning.proofs.Asked.{asks-line, asked-in, in-asked}
 use Rattle.session_meaning.proofs.StuckReplies.{no-first, no-why}
 use Rattle.session_meaning.specs.Replies.{IsReply}

@@ -26,13 +26,13 @@ use Rattle.reply_lines.specs.declared.reply.VcdReply.TheVariants as dumps
 use Rattle.reply_lines.specs.Replies.{vcd_line}
 use Rattle.vcd_answers.specs.Wires.{Wire, AreWires, is_wire, wire_of_query, shown_value}
 use Rattle.vcd_answers.specs.Dumps.{vcd_of}
-use Rattle.vcd_answers.proofs.Sound.{are_sound}
+use Rattle.vcd_answers.proofs.Callers.{are_sound}
 use Rattle.session_meaning.specs.declared.Verdict.{Verdict}
 use Rattle.session_meaning.specs.declared.Verdict.TheVariants.{Ask, Unknown, Past}
 use Rattle.session_meaning.specs.Verdicts.{verdict}
 use Rattle.session_meaning.specs.Dumps.{wire_of, item_wire, wires_of}
 use Rattle.session_meaning.specs.Session.{Setup, Course, IsServed, Session, Opened, Served, is_taken, with_reply, with_dump, with_last}
-use Rattle.query_lines.proofs.OwnLines.{first-part, later-part}
+use Rattle.query_lines.proofs.Callers.{first-part, later-part}
 
 -- ---- the wires of a batch
 

@@ -1,15 +1,16 @@
-pub mod Asked
-pub mod StuckReplies
-pub mod Dumps
-pub mod Held
-pub mod Legal
-pub mod Enough
-pub mod Journals
-pub mod Shown
-pub mod Spread
-pub mod Again
-pub mod Accepted
-pub mod Narrow
-pub mod Numbered
-pub mod OneJournal
-pub mod Whole
+mod Asked
+mod StuckReplies
+mod Dumps
+mod Held
+mod Legal
+mod Enough
+mod Journals
+mod Shown
+mod Spread
+mod Again
+mod Accepted
+mod Narrow
+mod Numbered
+mod OneJournal
+mod Whole
+pub mod Callers

@@ -13,7 +13,7 @@ use Rattle.circuit_meaning.specs.Cells.{cell_at}
 use Rattle.circuit_meaning.specs.declared.Window.{Window}
 use Rattle.circuit_meaning.specs.Need.{IsNeeded, Root, Child, HasChildren, IsEvaluable}
 use Rattle.circuit_meaning.specs.Forced.{forced_circuit}
-use Rattle.circuit_meaning.proofs.Cover.{cell-covers}
+use Rattle.circuit_meaning.proofs.Callers.{cell-covers}
 use Rattle.journal_meaning.specs.declared.batch.Query.{Query}
 use Rattle.journal_meaning.specs.Batches.{Batch, Site, NeedOf, OfQuery, window_of}
 use Rattle.journal_meaning.specs.declared.Entry.{Entry}
@@ -22,8 +22,7 @@ use Rattle.journal_meaning.specs.States.{State, IsLeastRecent, fresh}
 use Rattle.journal_meaning.specs.Table.{Needs, after}
 use Rattle.journal_meaning.specs.Allowed.{IsAllowed}
 use Rattle.journal_meaning.specs.Replay.{IsLegal, IsLegalTrim, replay}
-use Rattle.journal_meaning.proofs.Lists.{Each, each-filter, each-right}
-use Rattle.journal_meaning.proofs.Named.{Ours, ClaimsOurs, names, still_ours}
+use Rattle.journal_meaning.proofs.Callers.{Each, each-filter, each-right, Ours, ClaimsOurs, names, still_ours}
 use Rattle.texts.specs.fields.Spelling.{IsNumber}
 use Rattle.journal_text.specs.Written.{IsPoint, IsEntry}
 

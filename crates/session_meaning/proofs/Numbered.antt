@@ -7,7 +7,7 @@ use Rattle.std.proofs.lemmas.List.Sums.{count_by-le-length}
 use Rattle.std.proofs.lemmas.List.{length-map}
 use Rattle.std.proofs.lemmas.List.Elements.{recursion_from_All}
 use Rattle.texts.specs.Text.{is_feed, less_empty_last, lines}
-use Rattle.journal_meaning.proofs.Lists.{Each, each-append, each-left, each-right}
+use Rattle.journal_meaning.proofs.Callers.{Each, each-append, each-left, each-right}
 use Rattle.query_lines.specs.declared.line.Line.{Line}
 use Rattle.query_lines.specs.declared.line.Line.TheVariants.{Blank, Ask, Go, Bad, Trim, Stats, Question, Vcd}
 use Rattle.query_lines.specs.declared.unit.Item.{Item}
@@ -16,7 +16,7 @@ use Rattle.query_lines.specs.declared.unit.Unit.TheVariants as units
 use Rattle.query_lines.specs.Lines.{line_of}
 use Rattle.query_lines.specs.Laws.{Request, Answer, Leave, Counts, Resolve, Dump, requests_in, requests_on, IsWithinLimits}
 use Rattle.query_lines.specs.Reading.{numbered_lines, script_units}
-use Rattle.query_lines.proofs.Requests.{told-units}
+use Rattle.query_lines.proofs.Callers.{told-units}
 
 -- the line of a request has at most this number
 abbrev IsRequestTo : ℕ → Request → Type 0

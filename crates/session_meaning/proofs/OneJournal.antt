@@ -7,17 +7,17 @@ use Rattle.std.proofs.lemmas.List.Sums.{get_or-le-sum_by}
 use Rattle.gate_values.specs.declared.Value.{Value}
 use Rattle.valid_intervals.specs.declared.SignalCell.{SignalCell}
 use Rattle.circuit_meaning.specs.Circuit.{Circuit, Input}
-use Rattle.circuit_meaning.proofs.Alike.{held-fits}
+use Rattle.circuit_meaning.proofs.Callers.{held-fits}
 use Rattle.journal_meaning.specs.declared.batch.Query.{Query}
 use Rattle.journal_meaning.specs.Batches.{Site}
 use Rattle.journal_meaning.specs.declared.Entry.{Entry}
 use Rattle.journal_meaning.specs.States.{fresh}
 use Rattle.journal_meaning.specs.Replay.{replay}
 use Rattle.journal_meaning.specs.Sections.{Purpose, Asks, Trims, Forces, SectionEntries, IsLegalIn, AreLegal, own_entries, list_of, cells_left}
-use Rattle.journal_meaning.proofs.Lists.{Each, each-append, each-left, each-right}
+use Rattle.journal_meaning.proofs.Callers.{Each, each-append, each-left, each-right}
 use Rattle.texts.specs.fields.Spelling.{IsNumber}
 use Rattle.journal_text.specs.Written.{IsEntry, IsSection}
-use Rattle.journal_text.proofs.WholeSections.{one_journal}
+use Rattle.journal_text.proofs.Callers.{one_journal}
 use Rattle.query_lines.specs.declared.line.What.{What}
 use Rattle.query_lines.specs.declared.line.What.TheVariants as whats
 use Rattle.query_lines.specs.declared.unit.Item.{Item}

@@ -4,12 +4,12 @@ use Rattle.texts.specs.Made.{Made}
 use Rattle.query_lines.specs.declared.unit.Unit.{Unit as ScriptUnit}
 use Rattle.query_lines.specs.declared.unit.Unit.TheVariants as units
 use Rattle.query_lines.specs.Fit.{IsFit}
-use Rattle.query_lines.proofs.OwnLines.{first-part}
+use Rattle.query_lines.proofs.Callers.{first-part}
 use Rattle.reply_lines.specs.declared.reply.VcdReply.TheVariants as dumps
 use Rattle.reply_lines.specs.Replies.{vcd_line}
 use Rattle.vcd_answers.specs.Wires.{Wire, AreWires}
 use Rattle.vcd_answers.specs.Dumps.{vcd_of}
-use Rattle.vcd_answers.proofs.ReadBack.{one_dump}
+use Rattle.vcd_answers.proofs.Callers.{one_dump}
 use Rattle.session_meaning.specs.Session.{Setup, Course, IsServed, Session, Opened, Served, is_taken, with_reply, with_dump, with_last, with_vcd}
 use Rattle.session_meaning.specs.Shown.{waves_left, last_waves, IsReading, IsDumpOf, OnlyShows}
 use Rattle.session_meaning.specs.Laws.{DumpsShowOwnWaves}

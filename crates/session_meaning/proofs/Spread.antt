@@ -13,7 +13,7 @@ use Rattle.journal_meaning.specs.Table.{after}
 use Rattle.journal_meaning.specs.Replay.{IsLegal, IsLegalTrim}
 use Rattle.journal_meaning.specs.Sections.{Purpose, Asks, Trims, Forces, SectionEntries, IsLegalIn, AreLegal, own_entries, list_of, cells_left, joined_entries}
 use Rattle.journal_meaning.specs.Counts.{count, evaluations}
-use Rattle.journal_meaning.proofs.Grown.{count-append}
+use Rattle.journal_meaning.proofs.Callers.{count-append}
 use Rattle.session_meaning.specs.Session.{is_fill, entries_that}
 use Rattle.session_meaning.specs.Again.{AreOfShard}
 

@@ -9,7 +9,7 @@ use Rattle.gate_values.specs.Spelling.{value_of_byte, value_of_word}
 use Rattle.texts.specs.declared.Amount.{Amount}
 use Rattle.texts.specs.declared.Amount.TheVariants.{NoNumber, Above, Within}
 use Rattle.texts.specs.Text.{amount, decimal_value, is_hash, is_name, is_number, words}
-use Rattle.texts.proofs.Comments.{is_clean, content_clean, words_clean, name_clean, number_clean}
+use Rattle.texts.proofs.Callers.{is_clean, content_clean, words_clean, name_clean, number_clean}
 use Rattle.stimulus_file.specs.declared.form.Form.{Form}
 use Rattle.stimulus_file.specs.declared.form.Form.TheVariants as forms
 use Rattle.stimulus_file.specs.Forms.{Other, horizon_of_amount, horizon_line, setting_of_parts, setting_line, by_words, line_of}

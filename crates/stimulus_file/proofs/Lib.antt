@@ -1,7 +1,7 @@
-pub mod Naming
-pub mod Keywords
-pub mod Comments
-pub mod Finding
-pub mod Steps
-pub mod Loop
-pub mod Within
+mod Naming
+mod Keywords
+mod Comments
+mod Finding
+mod Steps
+mod Loop
+mod Within

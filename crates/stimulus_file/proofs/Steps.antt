@@ -7,7 +7,7 @@ use Rattle.std.proofs.lemmas.Grind.{flat_map-append}
 use Rattle.std.proofs.lemmas.List.{append-nil, map-append}
 use Rattle.std.proofs.lemmas.List.Folds.{list_all-append, list_any-append}
 use Rattle.gate_values.specs.declared.Value.{Value}
-use Rattle.texts.proofs.Rows.{rows-push}
+use Rattle.texts.proofs.Callers.{rows-push}
 use Rattle.stimulus_file.specs.declared.names.Found.{Found}
 use Rattle.stimulus_file.specs.declared.names.Names.{Names}
 use Rattle.stimulus_file.specs.declared.reader.StimulusReader.{StimulusReader}

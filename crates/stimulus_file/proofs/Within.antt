@@ -10,7 +10,7 @@ use Rattle.gate_values.specs.Spelling.{value_of_word}
 use Rattle.texts.specs.declared.Amount.{Amount}
 use Rattle.texts.specs.declared.Amount.TheVariants.{NoNumber, Above, Within}
 use Rattle.texts.specs.Text.{amount, content, is_name, lines, words}
-use Rattle.texts.proofs.Digits.{within}
+use Rattle.texts.proofs.Callers.{within}
 use Rattle.texts.specs.declared.line_faults.causes.LineFault.{LineFault}
 use Rattle.texts.specs.line_faults.Faults.{first_fault, unless_fault}
 use Rattle.texts.specs.line_faults.Rows.{rows_from}

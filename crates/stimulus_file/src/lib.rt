@@ -44,10 +44,10 @@ mod reader;
 mod seen;
 
 use gate_values::Value;
-use texts::Text;
-use texts::line_faults::{LineCause, LineFault};
 pub use reader::read_stimulus;
 use std::marker::Model;
+use texts::Text;
+use texts::line_faults::{LineCause, LineFault};
 
 /// Why a line of the file is refused, in the order in which the causes of one
 /// line are tested.

@@ -1,12 +1,13 @@
-pub mod Comments
-pub mod Cuts
-pub mod Digits
-pub mod Finds
-pub mod NameEnds
-pub mod Stream
-pub mod Tokens
-pub mod Lines
-pub mod Rows
-pub mod Numbers
-pub mod FieldLemmas
-pub mod Items
+mod Comments
+mod Cuts
+mod Digits
+mod Finds
+mod NameEnds
+mod Stream
+mod Tokens
+mod Lines
+mod Rows
+mod Numbers
+mod FieldLemmas
+mod Items
+pub mod Callers

@@ -1,4 +1,5 @@
-pub mod Alike
-pub mod Loop
-pub mod Steps
-pub mod Within
+mod Alike
+mod Loop
+mod Steps
+mod Within
+pub mod Callers

@@ -12,7 +12,7 @@ use Rattle.gate_values.specs.declared.Kind.{Kind}
 use Rattle.circuit_meaning.specs.declared.flip_flop.Clock.{Clock}
 use Rattle.texts.specs.declared.line_faults.causes.LineFault.{LineFault}
 use Rattle.texts.specs.line_faults.Reading.{Steps}
-use Rattle.texts.proofs.Rows.{rows-push}
+use Rattle.texts.proofs.Callers.{rows-push}
 use Rattle.timing_file.specs.declared.TimingCause.{TimingCause}
 use Rattle.timing_file.specs.declared.TimingCause.TheVariants.{OutOfMemory}
 use Rattle.timing_file.specs.declared.TimingRow.{TimingRow}

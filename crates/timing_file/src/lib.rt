@@ -54,10 +54,10 @@ mod statement;
 use crate::content::TimingContent;
 use circuit_meaning::Clock;
 use gate_values::{Kind, Value};
-use texts::Text;
-use texts::line_faults::{LineCause, LineFault};
 pub use reader::read_timing;
 use std::marker::Model;
+use texts::Text;
+use texts::line_faults::{LineCause, LineFault};
 
 /// Why a line of the file is refused, in the order in which the causes of one
 /// line are tested.

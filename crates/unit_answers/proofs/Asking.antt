@@ -28,8 +28,8 @@ use Rattle.session_meaning.specs.Questions.{kind_queries, queries_at, IsRightBy,
 use Rattle.session_meaning.specs.Session.{Setup, question_batch}
 use Rattle.session_meaning.specs.Explanations.{IsExplained, IsWhyOutcome}
 use Rattle.session_meaning.specs.StuckSignals.{IsHeldMemo}
-use Rattle.session_meaning.proofs.Asked.{asks-within, asks-signal, window-asks}
-use Rattle.query_answers.proofs.Lawful.{first-lawful}
+use Rattle.session_meaning.proofs.Callers.{asks-within, asks-signal, window-asks}
+use Rattle.query_answers.proofs.Callers.{first-lawful}
 use Rattle.unit_answers.specs.Stores.{IsSized}
 use Rattle.unit_answers.specs.inner.Runs.{asks, asks_at}
 use Rattle.unit_answers.specs.inner.Asked.{IsSiteOf, IsAsked}

@@ -10,7 +10,7 @@ use Rattle.journal_meaning.specs.Allowed.{IsRight}
 use Rattle.journal_meaning.specs.Replay.{replay, IsLegalTrim}
 use Rattle.journal_meaning.specs.Sections.{of_batch}
 use Rattle.plan_machine.specs.Settle.{IsAnswered, AreAnswered, journals_of}
-use Rattle.plan_machine.proofs.Freed.{settled-answered}
+use Rattle.plan_machine.proofs.Callers.{settled-answered}
 use Rattle.query_lines.specs.declared.unit.Item.{Item}
 use Rattle.circuit_meaning.specs.declared.Run.{Run}
 use Rattle.reply_lines.specs.declared.reply.Outcome.{Outcome}

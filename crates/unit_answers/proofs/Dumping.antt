@@ -24,11 +24,10 @@ use Rattle.session_meaning.specs.declared.Verdict.TheVariants.{Ask, Unknown, Pas
 use Rattle.session_meaning.specs.Verdicts.{verdict, verdict_of}
 use Rattle.session_meaning.specs.Replies.{IsReply}
 use Rattle.session_meaning.specs.Session.{Setup}
-use Rattle.session_meaning.proofs.Asked.{window-asks}
+use Rattle.session_meaning.proofs.Callers.{window-asks, wires-few}
 use Rattle.unit_answers.specs.Done.{IsBatchDone}
 use Rattle.unit_answers.specs.Dumps.{AreRunsOf, IsOwnWave, AreReplied}
 use Rattle.unit_answers.proofs.Windows.{query-times}
-use Rattle.session_meaning.proofs.Held.{wires-few}
 use Rattle.unit_answers.proofs.Zips.{zip-get, zip-weaker}
 
 -- the wave of a window that is asked

@@ -1,13 +1,14 @@
-pub mod Few
-pub mod Trimming
-pub mod Answering
-pub mod Left
-pub mod Done
-pub mod Questions
-pub mod Windows
-pub mod Asking
-pub mod Zips
-pub mod Opening
-pub mod Running
-pub mod Dumping
-pub mod Crewing
+mod Few
+mod Trimming
+mod Answering
+mod Left
+mod Done
+mod Questions
+mod Windows
+mod Asking
+mod Zips
+mod Opening
+mod Running
+mod Dumping
+mod Crewing
+pub mod Callers

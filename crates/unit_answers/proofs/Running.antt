@@ -10,7 +10,7 @@ use Rattle.circuit_meaning.specs.Circuit.{Circuit}
 use Rattle.journal_meaning.specs.declared.Entry.{Entry}
 use Rattle.journal_meaning.specs.declared.batch.Query.{Query}
 use Rattle.journal_meaning.specs.Batches.{Batch}
-use Rattle.journal_meaning.proofs.Lists.{Each, each-append}
+use Rattle.journal_meaning.proofs.Callers.{Each, each-append}
 use Rattle.journal_meaning.specs.Lawful.{IsLawful}
 use Rattle.plan_machine.specs.Strands.{Strand, started_strand}
 use Rattle.journal_meaning.specs.Pieces.{Start, spans_of, starts_of, pieces}
@@ -31,7 +31,7 @@ use Rattle.session_meaning.specs.Session.{Setup, batch_of}
 use Rattle.worker_gate.specs.Ends.{AreNew}
 use Rattle.unit_answers.specs.Stores.{IsSized}
 use Rattle.unit_answers.specs.inner.Runs.{store_of, AreEnded, HasRun}
-use Rattle.session_meaning.proofs.Asked.{queries-signals, queries-within, queries-apart}
+use Rattle.session_meaning.proofs.Callers.{queries-signals, queries-within, queries-apart}
 
 -- the batch of items is lawful
 pub lawful-items : (setup : Setup) (items : List Item) → IsDesign setup.design → IsSized setup → AllPairs (λ a b. a.line ≢ b.line) items → IsLawful (batch_of setup items)

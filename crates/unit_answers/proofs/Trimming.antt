@@ -7,8 +7,8 @@ use Rattle.journal_meaning.specs.declared.Entry.{Entry}
 use Rattle.journal_meaning.specs.declared.Entry.TheVariants.{Evicted}
 use Rattle.journal_meaning.specs.States.{fresh}
 use Rattle.journal_meaning.specs.Replay.{replay, IsLegalTrim}
-use Rattle.journal_meaning.specs.inner.Trims.{evictions_back}
-use Rattle.journal_meaning.proofs.Trims.{trim-legal, trim-leaves}
+use Rattle.journal_meaning.specs.Trims.{evictions_back}
+use Rattle.journal_meaning.proofs.Callers.{trim-legal, trim-leaves}
 use Rattle.session_meaning.specs.Session.{trim_entries}
 use Rattle.unit_answers.specs.inner.Trims.{eviction_of, trimmed_store, entries_at}
 

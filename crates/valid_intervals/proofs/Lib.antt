@@ -1,2 +1,3 @@
-pub mod Same
-pub mod PointOrder
+mod Same
+mod PointOrder
+pub mod Callers

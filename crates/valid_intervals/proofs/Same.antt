@@ -3,7 +3,7 @@ use Rattle.std.proofs.Common.{◌≡◌, ℕ, true, nat_eq, ◌&&◌, ap₂, eqb
 use Rattle.std.proofs.lemmas.Bool.{and_parts, and_from}
 use Rattle.gate_values.specs.declared.Value.{Value}
 use Rattle.gate_values.specs.Gates.{same_value}
-use Rattle.gate_values.proofs.Same.{same_is, same_itself}
+use Rattle.gate_values.proofs.Callers.{same_is, same_itself}
 use Rattle.valid_intervals.specs.declared.Point.{Point}
 use Rattle.valid_intervals.specs.Spans.{Span}
 use Rattle.valid_intervals.specs.declared.Cell.{Cell}

@@ -1,8 +1,9 @@
-pub mod Grouped
-pub mod Instants
-pub mod Places
-pub mod Plain
-pub mod Put
-pub mod ReadBack
-pub mod Sound
-pub mod Windows
+mod Grouped
+mod Instants
+mod Places
+mod Plain
+mod Put
+mod ReadBack
+mod Sound
+mod Windows
+pub mod Callers

@@ -2,7 +2,7 @@
 use Rattle.std.proofs.Common.{◌≡◌, ℕ, zero, suc, ◌<◌, ◌≤◌, leb, List, [], ◌∷◌, ◌++◌, length, get_or, set, drop, sym, ap, ◌∙◌, arith}
 use Rattle.circuit_meaning.specs.declared.Run.{Run}
 use Rattle.texts.specs.Text.{lines}
-use Rattle.texts.proofs.Stream.{no_line}
+use Rattle.texts.proofs.Callers.{no_line}
 use Rattle.vcd_answers.specs.Wires.{Wire, goes_on}
 use Rattle.vcd_answers.specs.inner.Reading.{put_at}
 use Rattle.vcd_answers.proofs.Sound.{last_is}

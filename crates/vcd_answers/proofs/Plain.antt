@@ -15,8 +15,7 @@ use Rattle.gate_values.specs.Spelling.{byte_of_value}
 use Rattle.circuit_meaning.specs.declared.Run.{Run}
 use Rattle.texts.specs.declared.Amount.TheVariants.{Within}
 use Rattle.texts.specs.Text.{is_filled, is_name, is_name_byte, is_number, is_digit, decimal_value, amount, lines}
-use Rattle.texts.proofs.Stream.{is_plain, line_front, no_line}
-use Rattle.texts.proofs.Digits.{with_digit, number_is}
+use Rattle.texts.proofs.Callers.{is_plain, line_front, no_line, with_digit, number_is}
 use Rattle.vcd_answers.specs.Wires.{Wire, last_time, is_wire}
 use Rattle.vcd_answers.specs.Dumps.{first_code, is_at, change_line, time_line, change_lines, is_instant, instant_lines, body_lines, var_line, var_lines, vcd_lines, with_line_feed, vcd_of}
 use Rattle.vcd_answers.proofs.Sound.{last_is}

@@ -11,7 +11,7 @@ use Rattle.circuit_meaning.specs.Forward.{value, wave}
 use Rattle.texts.specs.Text.{is_name}
 use Rattle.window_walks.specs.Runs.{maximal_runs}
 use Rattle.vcd_answers.specs.Wires.{Wire, last_time, changes_of, shown_value, wire_runs, wire_of_query, goes_on, are_changes, is_wire}
-use Rattle.gate_values.proofs.Same.{same-sym, same_is}
+use Rattle.gate_values.proofs.Callers.{same-sym, same_is}
 use Rattle.vcd_answers.proofs.Windows.{point, differs, wave_changes}
 
 pub last_is : last_time ≡ 1000001

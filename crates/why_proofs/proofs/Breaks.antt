@@ -9,8 +9,7 @@ use Rattle.why_proofs.specs.Spelling.{claim_line, cell_line, Proof, text_of, IsL
 use Rattle.why_proofs.specs.Broken.{first_lines, GoesOn, IsBroken}
 use Rattle.texts.specs.fields.Reading.{after_word}
 use Rattle.why_proofs.specs.inner.Reading.{Claim, claim_at, cell_at, cells_at}
-use Rattle.texts.proofs.FieldLemmas.{after_takes}
-use Rattle.texts.proofs.Items.{items_again}
+use Rattle.texts.proofs.Callers.{after_takes, items_again}
 use Rattle.why_proofs.proofs.Lines.{claim_again, cell_again, cell_none_end, spelling}
 use Rattle.why_proofs.proofs.Feeds.{IsWholeLine, claim-whole, cell-whole, end-whole, line-same, first-line, first-none, first-shape, first-fewer}
 

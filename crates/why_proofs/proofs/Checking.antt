@@ -14,8 +14,7 @@ use Rattle.texts.specs.fields.Reading.{after_word}
 use Rattle.why_proofs.specs.inner.Reading.{Claim, claim_at, cell_at, cells_at}
 use Rattle.why_proofs.specs.declared.checker.Checked.{Checked}
 use Rattle.why_proofs.specs.declared.checker.Checked.TheVariants.{Yes, No, Bad}
-use Rattle.texts.proofs.FieldLemmas.{after_takes}
-use Rattle.texts.proofs.Items.{AreRead, items_take, items_count}
+use Rattle.texts.proofs.Callers.{after_takes, AreRead, items_take, items_count}
 use Rattle.why_proofs.proofs.Lines.{claim_takes, spelling}
 use Rattle.why_proofs.proofs.Breaks.{head, head-is, no-end, more-behind}
 use Rattle.why_proofs.proofs.Sound.{claim-true}

@@ -15,7 +15,7 @@ use Rattle.valid_intervals.specs.declared.SignalCell.{SignalCell}
 use Rattle.texts.specs.fields.Spelling.{field, IsNumber}
 use Rattle.why_proofs.specs.Spelling.{last_field, claim_line, cell_line, IsLine}
 use Rattle.why_proofs.specs.Broken.{first_lines}
-use Rattle.texts.proofs.Numbers.{own}
+use Rattle.texts.proofs.Callers.{own}
 
 -- no line feed is among the bytes
 abbrev pub HasNoFeed : List ℕ → Type 0

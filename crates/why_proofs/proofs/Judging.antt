@@ -7,7 +7,7 @@ use Rattle.valid_intervals.specs.declared.SignalCell.{SignalCell}
 use Rattle.circuit_meaning.specs.Circuit.{Circuit, IsCircuit}
 use Rattle.circuit_meaning.specs.Need.{IsEvaluable}
 use Rattle.why_proofs.specs.Justified.{answer, IsJustified, IsJustifiedAt, AreJustified}
-use Rattle.why_proofs.specs.inner.Known.{place_of, AreTrueCells, IsIndexOf, IsRuled, Accepts}
+use Rattle.why_proofs.specs.Known.{place_of, AreTrueCells, IsIndexOf, IsRuled, Accepts}
 use Rattle.why_proofs.proofs.Sound.{answer-right, rule-right, grown, take-grown}
 use Rattle.why_proofs.proofs.KnownLemmas.{index-right}
 

@@ -10,16 +10,15 @@ use Rattle.valid_intervals.specs.declared.Point.{Point}
 use Rattle.valid_intervals.specs.declared.SignalCell.{SignalCell}
 use Rattle.valid_intervals.specs.Spans.{IsIn}
 use Rattle.valid_intervals.specs.Cells.{covers, point_cmp}
-use Rattle.valid_intervals.proofs.PointOrder.{same-place, itself, not-behind, signal-up, signal-down, time-up, time-down}
+use Rattle.valid_intervals.proofs.Callers.{same-place, itself, not-behind, signal-up, signal-down, time-up, time-down}
 use Rattle.circuit_meaning.specs.Circuit.{Circuit, IsCircuit}
 use Rattle.circuit_meaning.specs.Cells.{cell_at, point_at}
 use Rattle.circuit_meaning.specs.Base.{base_answer}
 use Rattle.circuit_meaning.specs.Need.{IsEvaluable}
-use Rattle.circuit_meaning.proofs.Cover.{cell-covers}
-use Rattle.circuit_meaning.proofs.BaseCells.{base-answers}
+use Rattle.circuit_meaning.proofs.Callers.{cell-covers, base-answers}
 use Rattle.why_proofs.specs.Justified.{base_or, line_at}
 use Rattle.why_proofs.specs.Laws.{IsTrueLine}
-use Rattle.why_proofs.specs.inner.Known.{place_of, IsTrueCell, AreTrueCells, IsStated, IsIndexOf}
+use Rattle.why_proofs.specs.Known.{place_of, IsTrueCell, AreTrueCells, IsStated, IsIndexOf}
 use Rattle.why_proofs.proofs.Sound.{Covers, covers-from, steady}
 
 covers-to : (x : SignalCell) (s t : ℕ) → Covers x s t → covers (point_at s t) x ≡ true

@@ -1,9 +1,10 @@
-pub mod Lines
-pub mod Feeds
-pub mod Breaks
-pub mod Checking
-pub mod Fixed
-pub mod Sound
-pub mod Sources
-pub mod KnownLemmas
-pub mod Judging
+mod Lines
+mod Feeds
+mod Breaks
+mod Checking
+mod Fixed
+mod Sound
+mod Sources
+mod KnownLemmas
+mod Judging
+pub mod Callers

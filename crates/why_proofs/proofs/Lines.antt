@@ -13,8 +13,7 @@ use Rattle.texts.specs.fields.Spelling.{field, IsNumber}
 use Rattle.why_proofs.specs.Spelling.{last_field, claim_line, cell_line, IsLine}
 use Rattle.texts.specs.fields.Reading.{◌>>=◌, after_word, field_at, value_at}
 use Rattle.why_proofs.specs.inner.Reading.{last_field_at, is_space, name_before, name_at, Claim, claim_at, cell_at, line_of}
-use Rattle.texts.proofs.Items.{AreSpelled}
-use Rattle.texts.proofs.FieldLemmas.{bind_some, after_takes, field_takes, field_again, value_takes}
+use Rattle.texts.proofs.Callers.{AreSpelled, bind_some, after_takes, field_takes, field_again, value_takes}
 
 -- ---- the end of a line
 

@@ -12,7 +12,7 @@ use Rattle.gate_values.specs.declared.Value.TheVariants.{X}
 use Rattle.gate_values.specs.declared.Kind.{Kind}
 use Rattle.gate_values.specs.declared.Kind.TheVariants.{Dff}
 use Rattle.gate_values.specs.Gates.{gate_value, decides}
-use Rattle.gate_values.proofs.Looked.{gate_value-looked, cut_alike, map-up_to_first}
+use Rattle.gate_values.proofs.Callers.{gate_value-looked, cut_alike, map-up_to_first}
 use Rattle.valid_intervals.specs.declared.Cell.{Cell}
 use Rattle.valid_intervals.specs.declared.SignalCell.{SignalCell}
 use Rattle.valid_intervals.specs.Cells.{covers}
@@ -24,11 +24,9 @@ use Rattle.circuit_meaning.specs.Forward.{value, value_from, seen_value, flop_va
 use Rattle.circuit_meaning.specs.Cells.{span, span_from, looked_pins, pin_span, gate_span, least_delay, cell_at, point_at}
 use Rattle.circuit_meaning.specs.Base.{base_answer}
 use Rattle.circuit_meaning.specs.Need.{IsEvaluable}
-use Rattle.circuit_meaning.proofs.Equations.{map_same, all_imply, value_is, span_is}
-use Rattle.circuit_meaning.proofs.Steady.{seen-early, seen-late, pin_span-early, pin_span-late, cell-steady}
-use Rattle.circuit_meaning.proofs.BaseCells.{base-answers}
+use Rattle.circuit_meaning.proofs.Callers.{map_same, all_imply, value_is, span_is, seen-early, seen-late, pin_span-early, pin_span-late, cell-steady, base-answers}
 use Rattle.design.specs.Joined.{Joined}
-use Rattle.design.proofs.PinWalkLemmas.{take-none}
+use Rattle.design.proofs.Callers.{take-none}
 use Rattle.why_proofs.specs.Spelling.{Proof}
 use Rattle.why_proofs.specs.Justified.{Answers, base_or, line_at, answer, value_in, span_in, looked_in, IsAnswered, AreAnswered, rule_value, rule_span, rule_cell, IsJustified, AreJustified, IsJustifiedProof}
 use Rattle.why_proofs.specs.Laws.{IsTrueLine}

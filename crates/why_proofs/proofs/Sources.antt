@@ -12,15 +12,13 @@ use Rattle.circuit_meaning.specs.declared.Pin.{Pin}
 use Rattle.circuit_meaning.specs.Circuit.{Circuit, Driver, Input, Gate, Flop, driver, IsCircuit}
 use Rattle.circuit_meaning.specs.Cells.{looked_pins}
 use Rattle.circuit_meaning.specs.Looks.{kind_of, pin_point, flop_points, pin_points_at, sees}
-use Rattle.circuit_meaning.proofs.Steady.{all_map, map_all}
-use Rattle.circuit_meaning.proofs.Equations.{all_imply}
-use Rattle.circuit_meaning.proofs.Looking.{cut-sources}
+use Rattle.circuit_meaning.proofs.Callers.{all_map, map_all, all_imply, cut-sources}
 use Rattle.why_proofs.specs.Justified.{Answers, looked_in, IsAnswered, AreAnswered}
 use Rattle.valid_intervals.specs.declared.Cell.{Cell}
 use Rattle.circuit_meaning.specs.Cells.{cell_at}
 use Rattle.design.specs.declared.pin_walk.PinWalk.{PinWalk}
 use Rattle.design.specs.PinWalks.{looked_at, next_point}
-use Rattle.why_proofs.specs.inner.Known.{IsKnown, AreKnown, IsRuled}
+use Rattle.why_proofs.specs.Known.{IsKnown, AreKnown, IsRuled}
 use Rattle.why_proofs.proofs.Sound.{AreRight, looked-from, looked-to}
 
 source-known : (a : Answers) (t : ℕ) (p : Pin) → IsAnswered a t p → IsKnown a (pin_point t p)

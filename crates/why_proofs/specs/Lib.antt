@@ -4,3 +4,4 @@ pub mod Justified
 pub mod Verdicts
 pub mod Laws
 pub mod inner
+pub mod Known

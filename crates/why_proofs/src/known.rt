@@ -10,7 +10,7 @@ ghost use Rattle.valid_intervals.specs.declared.SignalCell.{SignalCell};
 ghost use Rattle.why_proofs.specs.Spelling.{Proof};
 ghost use Rattle.why_proofs.specs.Justified.{answer, line_at, IsJustified, IsClaimed};
 ghost use Rattle.design.specs.PinWalks.{IsPoint, IsPinWalk, IsLooking, LooksOn};
-ghost use Rattle.why_proofs.specs.inner.Known.{IsTrueCell, AreTrueCells, IsIndexOf, Hears, Rules, Judges, Accepts, place_of};
+ghost use Rattle.why_proofs.specs.Known.{IsTrueCell, AreTrueCells, IsIndexOf, Hears, Rules, Judges, Accepts, place_of};
 
 use crate::cells::CellLine;
 use design::{Design, PinWalk};

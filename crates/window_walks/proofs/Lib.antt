@@ -1,2 +1,2 @@
-pub mod Maximal
-pub mod WalkLemmas
+mod Maximal
+mod WalkLemmas

@@ -3,7 +3,7 @@ use Rattle.std.proofs.Common.{◌≡◌, ℕ, suc, ◌-◌, Bool, true, false, c
 use Rattle.std.specs.List.{slice_get}
 use Rattle.gate_values.specs.declared.Value.{Value}
 use Rattle.gate_values.specs.Gates.{same_value}
-use Rattle.gate_values.proofs.Same.{same-sym, same_is}
+use Rattle.gate_values.proofs.Callers.{same-sym, same_is}
 use Rattle.valid_intervals.specs.declared.Cell.{Cell}
 use Rattle.circuit_meaning.specs.declared.Run.{Run}
 use Rattle.circuit_meaning.specs.Laws as laws

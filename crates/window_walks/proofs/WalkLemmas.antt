@@ -6,7 +6,7 @@ use Rattle.circuit_meaning.specs.Circuit.{Circuit, IsCircuit}
 use Rattle.circuit_meaning.specs.Cells.{cell_at, point_at}
 use Rattle.circuit_meaning.specs.Forward.{wave}
 use Rattle.circuit_meaning.specs.Laws.{AreCells}
-use Rattle.circuit_meaning.proofs.Walk.{cells-fix}
+use Rattle.circuit_meaning.proofs.Callers.{cells-fix}
 use Rattle.window_walks.specs.Runs.{maximal_runs, first_points}
 use Rattle.window_walks.specs.Walks.{Walk, Reach, IsWalked}
 use Rattle.window_walks.proofs.Maximal.{runs_of-points}

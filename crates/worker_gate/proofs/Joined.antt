@@ -13,8 +13,7 @@ use Rattle.plan_core.specs.declared.asked.fill_counts.FillCounts.{FillCounts}
 use Rattle.plan_core.specs.declared.asked.said.Said.{Said}
 use Rattle.plan_core.specs.asked.FillCounts.{HaveCounted}
 use Rattle.plan_core.specs.asked.Memos.{entries_of}
-use Rattle.plan_core.proofs.Counted.{none-counted, both-counted}
-use Rattle.plan_core.proofs.Entries.{entries-append}
+use Rattle.plan_core.proofs.Callers.{none-counted, both-counted, entries-append}
 use Rattle.worker_gate.specs.Said.{AreJoined}
 
 -- so many chunks reach the end

@@ -1,4 +1,4 @@
-pub mod Heard
-pub mod InTurn
-pub mod Places
-pub mod Joined
+mod Heard
+mod InTurn
+mod Places
+mod Joined

@@ -17,8 +17,8 @@ use design::Design;
 use memo_shards::{Shard, know_all};
 use plan_core::asked::{Places, Said, has_heard};
 use std::alloc::Global;
-use std::thread::Threads;
 use std::thread;
+use std::thread::Threads;
 use texts::OutOfMemory;
 
 /// With fewer entries one thread looks sooner than several are started.

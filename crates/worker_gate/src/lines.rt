@@ -6,8 +6,8 @@ ghost use Rattle.journal_text.specs.Spelling.{entry_line};
 use journal_meaning::Entry;
 use journal_text::push_entry;
 use std::alloc::Global;
-use std::thread::Threads;
 use std::thread;
+use std::thread::Threads;
 use texts::OutOfMemory;
 
 /// How long a line is, at a guess.

@@ -23,8 +23,8 @@ use memo_shards::Shard;
 use ready_queue::{QueuePass, ReadyQueue};
 use std::alloc::Global;
 use std::sync::{Condvar, Mutex, Wait};
-use std::thread::Threads;
 use std::thread;
+use std::thread::Threads;
 use texts::OutOfMemory;
 
 // Puts a shard behind a lock, with the number of its claims and fills.

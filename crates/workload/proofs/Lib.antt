@@ -1,2 +1,2 @@
-pub mod States
-pub mod WrittenLines
+mod States
+mod WrittenLines

@@ -3,16 +3,16 @@
 
 ghost use Rattle.std.specs.Prelude.{◌≡◌, false};
 
+use super::objects::{bytes_in, file};
 use crate::serve::serve;
 use crate::status::Status;
-use super::objects::{bytes_in, file};
 use backsim_io::{MemFiles, MemSink, MemSource};
 use std::alloc::Global;
 use std::sync::Wait;
 use std::sync::atomic::{AtomicU64, Ordering};
 use std::test::Fail;
-use std::thread::Threads;
 use std::thread;
+use std::thread::Threads;
 use texts::Text;
 use worker_gate::{Gate, Pass};
 

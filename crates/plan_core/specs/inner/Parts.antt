@@ -5,11 +5,11 @@ use Rattle.journal_meaning.specs.Batches.{Batch}
 use Rattle.journal_meaning.specs.Lawful.{IsLawful}
 use Rattle.plan_machine.specs.Strands.{Strand}
 use Rattle.plan_machine.specs.Plans.{Plan}
-use Rattle.plan_machine.specs.inner.KeptPlans.{WaitedShard, plan_of, IsKeptPlan}
+use Rattle.plan_machine.specs.KeptPlans.{WaitedShard, plan_of, IsKeptPlan}
 use Rattle.plan_machine.specs.Sound.{IsSound}
 use Rattle.demand_points.specs.Demands.{Demand}
 use Rattle.memo_shards.specs.KeptShards.{KeptShard}
-use Rattle.memo_shards.specs.inner.Seen.{waited_shard}
+use Rattle.memo_shards.specs.Seen.{waited_shard}
 use Rattle.plan_core.specs.inner.Places.{seats, AreNumbered}
 use Rattle.plan_core.specs.Parts.{AreInOrder}
 

@@ -2,9 +2,9 @@
 use Rattle.std.specs.Prelude.{◌≡◌, ℕ, ◌<◌, List, [], ◌∷◌, map, slice_get, Option, Some, None}
 use Rattle.plan_machine.specs.declared.strand.Next.{Next}
 use Rattle.plan_machine.specs.Strands.{Strand, next}
-use Rattle.plan_machine.specs.inner.Parts.{NumberedStrand}
+use Rattle.plan_machine.specs.Parts.{NumberedStrand}
 use Rattle.demand_points.specs.Demands.{Demand}
-use Rattle.memo_shards.specs.inner.Seen.{numbered_strand}
+use Rattle.memo_shards.specs.Seen.{numbered_strand}
 
 -- the strand in a place, in the words of `plan_machine`
 abbrev pub seat : Option Demand → Option Strand

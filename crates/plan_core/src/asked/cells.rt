@@ -6,9 +6,9 @@ ghost use Rattle.std.specs.List.{AllByRecursion};
 ghost use Rattle.circuit_meaning.specs.Circuit.{Circuit, IsCircuit};
 ghost use Rattle.journal_meaning.specs.declared.Entry.{Entry as EntryRecord};
 ghost use Rattle.circuit_meaning.specs.Cells.{cell_at};
-ghost use Rattle.journal_meaning.specs.inner.Grown.{IsRightEntry};
+ghost use Rattle.journal_meaning.specs.Listed.{IsRightEntry};
 ghost use Rattle.journal_meaning.specs.Entries.{SaidCell};
-ghost use Rattle.journal_meaning.specs.inner.Index.{cells_said, IsFound, IsCellIndex};
+ghost use Rattle.journal_meaning.specs.Index.{cells_said, IsFound, IsCellIndex};
 ghost use Rattle.valid_intervals.specs.Cells.{point_cmp};
 
 use journal_meaning::Entry;

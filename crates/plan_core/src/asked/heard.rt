@@ -9,7 +9,7 @@ ghost use Rattle.memo_shards.specs.KeptShards.{IsKnownShard};
 ghost use Rattle.design.specs.PinWalks.{IsLooking, IsPinWalk, IsPoint, LooksOn, next_point};
 ghost use Rattle.plan_core.specs.asked.Heard.{HasHeard, IsHeard};
 ghost use Rattle.plan_core.specs.asked.Memos.{entries_of};
-ghost use Rattle.plan_core.specs.asked.inner.Sources.{IsSourceCovered};
+ghost use Rattle.plan_core.specs.asked.Sources.{IsSourceCovered};
 
 use crate::asked::places::Places;
 use crate::asked::reading::said_for;

@@ -8,8 +8,8 @@ ghost use Rattle.circuit_meaning.specs.Need.{IsEvaluable};
 ghost use Rattle.journal_meaning.specs.declared.Entry.{Entry as EntryRecord};
 ghost use Rattle.journal_meaning.specs.Answers.{fill_count};
 ghost use Rattle.circuit_meaning.specs.Cells.{cell_at};
-ghost use Rattle.journal_meaning.specs.inner.Grown.{IsRightEntry};
-ghost use Rattle.journal_meaning.specs.inner.Index.{cells_said, IsCellIndex, IsFound};
+ghost use Rattle.journal_meaning.specs.Listed.{IsRightEntry};
+ghost use Rattle.journal_meaning.specs.Index.{cells_said, IsCellIndex, IsFound};
 ghost use Rattle.valid_intervals.specs.Cells.{point_cmp};
 ghost use Rattle.journal_meaning.specs.Lawful.{IsLawful};
 ghost use Rattle.journal_meaning.specs.Pieces.{IsStart};
@@ -56,7 +56,7 @@ impl<B: BatchName> Model for Memo<B> {
 
     ghost use Rattle.std.specs.Prelude.{IfSome};
     ghost use Rattle.std.specs.BTreeMap.{get};
-    ghost use Rattle.journal_meaning.specs.inner.Index.{cells_said, IsCellIndex};
+    ghost use Rattle.journal_meaning.specs.Index.{cells_said, IsCellIndex};
     ghost use Rattle.valid_intervals.specs.Cells.{point_cmp};
     ghost use Rattle.plan_core.specs.asked.Memos.{entries_of};
 

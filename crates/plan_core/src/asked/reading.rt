@@ -4,8 +4,8 @@ ghost use Rattle.std.specs.Prelude.{◌≡◌, ◌<◌, ℕ, length, slice_index
 ghost use Rattle.std.specs.BTreeMap.{get};
 ghost use Rattle.std.specs.List.{AllByRecursion};
 ghost use Rattle.circuit_meaning.specs.Circuit.{Circuit, IsCircuit};
-ghost use Rattle.journal_meaning.specs.inner.Grown.{IsRightEntry};
-ghost use Rattle.journal_meaning.specs.inner.Index.{cells_said, IsCellIndex};
+ghost use Rattle.journal_meaning.specs.Listed.{IsRightEntry};
+ghost use Rattle.journal_meaning.specs.Index.{cells_said, IsCellIndex};
 ghost use Rattle.valid_intervals.specs.Cells.{point_cmp};
 ghost use Rattle.memo_shards.specs.KeptShards.{KeptShard};
 ghost use Rattle.memo_shards.specs.Ends.{FreesAll};

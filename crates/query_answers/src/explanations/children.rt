@@ -8,11 +8,11 @@ ghost use Rattle.design.specs.PinWalks.{IsPoint, IsPinWalk, IsLooking, LooksOn, 
 ghost use Rattle.journal_meaning.specs.Batches.{IsNeededBy};
 ghost use Rattle.journal_meaning.specs.Lawful.{IsLawful};
 ghost use Rattle.plan_machine.specs.Shards.{Shard as ShardRecord};
-ghost use Rattle.plan_machine.specs.inner.Settle.{IsStanding, Advances, Reaches};
+ghost use Rattle.plan_machine.specs.Standings.{IsStanding, Advances, Reaches};
 ghost use Rattle.plan_core.specs.Parts.{shards_in};
 ghost use Rattle.plan_core.specs.asked.Asked.{AsksOn};
 ghost use Rattle.plan_core.specs.asked.Memos.{IsChargedMemo, entries_of, is_missing};
-ghost use Rattle.plan_core.specs.asked.inner.Standings.{live, standing};
+ghost use Rattle.plan_core.specs.asked.Standings.{live, standing};
 ghost use Rattle.query_answers.specs.explanations.inner.Waiting.{place_cmp, point_of};
 ghost use Rattle.query_answers.specs.explanations.inner.Gathered.{Looks};
 

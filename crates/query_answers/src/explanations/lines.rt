@@ -4,11 +4,11 @@ ghost use Rattle.std.specs.Prelude.{◌≡◌, [], List, Contains, false, IfOk, 
 ghost use Rattle.std.specs.BTreeMap.{get};
 ghost use Rattle.journal_meaning.specs.Lawful.{IsLawful};
 ghost use Rattle.plan_machine.specs.Shards.{Shard as ShardRecord};
-ghost use Rattle.plan_machine.specs.inner.Settle.{IsStanding, Advances};
+ghost use Rattle.plan_machine.specs.Standings.{IsStanding, Advances};
 ghost use Rattle.plan_core.specs.Parts.{shards_in};
 ghost use Rattle.plan_core.specs.asked.Asked.{AsksOn};
 ghost use Rattle.plan_core.specs.asked.Memos.{IsChargedMemo, AreFreeShards, entries_of, is_missing};
-ghost use Rattle.plan_core.specs.asked.inner.Standings.{live, standing};
+ghost use Rattle.plan_core.specs.asked.Standings.{live, standing};
 ghost use Rattle.query_answers.specs.explanations.inner.Waiting.{place_cmp};
 ghost use Rattle.query_answers.specs.explanations.inner.Gathered.{AreGathered, AreExplained};
 

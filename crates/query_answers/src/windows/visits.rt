@@ -8,13 +8,13 @@ ghost use Rattle.journal_meaning.specs.Answers.{IsCovered};
 ghost use Rattle.journal_meaning.specs.Batches.{IsNeededBy};
 ghost use Rattle.journal_meaning.specs.Lawful.{IsLawful};
 ghost use Rattle.plan_machine.specs.Shards.{Shard as ShardRecord};
-ghost use Rattle.plan_machine.specs.inner.Settle.{IsStanding, Advances, IsVisited, IsCoveredTo};
+ghost use Rattle.plan_machine.specs.Standings.{IsStanding, Advances, IsVisited, IsCoveredTo};
 ghost use Rattle.plan_machine.specs.Settle.{entries_in};
 ghost use Rattle.plan_core.specs.Parts.{shards_in};
 ghost use Rattle.plan_core.specs.asked.Asked.{AsksOn};
 ghost use Rattle.plan_core.specs.asked.Memos.{IsChargedMemo, entries_of, is_missing};
-ghost use Rattle.plan_core.specs.asked.inner.Standings.{live, standing};
-ghost use Rattle.plan_core.specs.asked.inner.Sources.{IsSourceCovered};
+ghost use Rattle.plan_core.specs.asked.Standings.{live, standing};
+ghost use Rattle.plan_core.specs.asked.Sources.{IsSourceCovered};
 
 use demand_points::BatchName;
 use design::{Design, PinWalk};

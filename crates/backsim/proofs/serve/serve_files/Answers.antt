@@ -13,7 +13,7 @@ use Rattle.backsim.specs.declared.status.Status.TheVariants.{Ended}
 use Rattle.backsim.specs.declared.status.Status.TheVariants as statuses
 use Rattle.backsim.proofs.Asked.{session-complete, of-accepted, no-refusal, short-script, ended-no-usage, early-serves}
 use Rattle.backsim.proofs.Ends.{NoneCreated, files-early, early-not_ended, early-no_usage, files-refused, files-leave, files-untouched, first-refuses, all-refuse, files-refuse}
-use Rattle.session_loop.proofs.Changes.{none-unfinished}
+use Rattle.session_loop.proofs.Callers.{none-unfinished}
 use Rattle.backsim.proofs.Explained.{outside_at, calm-then, calm-files, calm-served, files-explain, files-kept, halt-ends, halt-open, files-open}
 use Rattle.backsim.proofs.Halts.{served-all, halt-early, halt-refused, halt-leaves, halted-script, halt-no_file}
 use Rattle.backsim.proofs.serve.serve_files.Goals as goal

@@ -1,7 +1,7 @@
 use Rattle.std.proofs.Common.{rules, ℕ, ◌<◌, List, Vec, Global, Option, Err, length, ap, subst, ◌∙◌}
 use Rattle.std.specs.Prelude.{IfSome}
 use Rattle.std.proofs.lemmas.Result.{err_from_is_err_and}
-use Rattle.circuit_files.proofs.Changed.{held-same}
+use Rattle.circuit_files.proofs.Callers.{held-same}
 use Rattle.backsim_check.proofs.Read.{design-stops, proof-stops, proof-refused, first-refused, third-refused, fourth-refused, files-right, proof-right}
 use Rattle.backsim_check.proofs.reading.read_all.Goals as goal
 

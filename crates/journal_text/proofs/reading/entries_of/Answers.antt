@@ -1,7 +1,7 @@
 use Rattle.std.proofs.Common.{rules, ◌≡◌, ◌++◌, ◌∷◌, [], List, length, ◌∙◌, ap, Some}
 use Rattle.journal_meaning.specs.declared.Entry.{Entry}
 use Rattle.journal_text.specs.inner.Reading.{entry_at, entries_at}
-use Rattle.texts.proofs.Items.{shorter, put_all, put_next}
+use Rattle.texts.proofs.Callers.{shorter, put_all, put_next}
 use Rattle.journal_text.proofs.Lines.{spelling}
 use Rattle.journal_text.proofs.reading.entries_of.Goals as goal
 

@@ -1,7 +1,7 @@
 -- The entries that are left come after those read so far.
 use Rattle.std.proofs.Common.{◌≡◌, length}
 use Rattle.journal_text.specs.inner.Reading.{entries_at}
-use Rattle.texts.proofs.Items.{put_all}
+use Rattle.texts.proofs.Callers.{put_all}
 use Rattle.journal_text.proofs.reading.entries_of.Given as goal
 
 abbrev pub invariant-loop-entry : goal.invariant-loop-entry

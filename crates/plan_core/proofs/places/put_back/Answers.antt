@@ -1,12 +1,12 @@
 use Rattle.std.proofs.Common.{◌≡◌, length, sym, ap, ◌∙◌, subst, refl, List, map, ◌<◌}
 use Rattle.std.specs.Vec.Iter.{into_iter_items}
-use Rattle.memo_shards.specs.inner.Seen.{numbered_strand}
+use Rattle.memo_shards.specs.Seen.{numbered_strand}
 use Rattle.plan_core.specs.inner.Places.{seats, HaveNumbers}
 use Rattle.plan_core.proofs.Lists.{put-first, put-one, put-last}
 use Rattle.plan_core.proofs.places.put_back.Goals as goal
 use Rattle.demand_points.specs.Demands.{Demand}
 use Rattle.plan_machine.specs.Plans.{itself}
-use Rattle.plan_machine.specs.inner.Parts.{put_back as put_all}
+use Rattle.plan_machine.specs.Parts.{put_back as put_all}
 
 pub put_at-requires : goal.put_at-requires
 put_at-requires g c =

@@ -19,12 +19,12 @@ use Rattle.journal_meaning.specs.States.{holder}
 use Rattle.plan_machine.specs.Strands.{Strand, IsOnStack}
 use Rattle.plan_machine.specs.Shards.{Shard}
 use Rattle.plan_machine.specs.Alone.{AreFed, IsUnspent, IsUnderWay, IsGivingUp}
-use Rattle.plan_machine.specs.inner.Settle.{IsStanding}
+use Rattle.plan_machine.specs.Standings.{IsStanding}
 use Rattle.demand_points.specs.Demands.{Demand}
 use Rattle.memo_shards.specs.KeptShards.{KeptShard}
 use Rattle.session_meaning.specs.StuckSignals.{stuck_circuit, held_batch, IsCoveredBy, NoneIsFree}
 use Rattle.plan_core.specs.asked.Memos.{entries_of}
-use Rattle.plan_core.specs.asked.inner.Standings.{live}
+use Rattle.plan_core.specs.asked.Standings.{live}
 use Rattle.query_answers.specs.stuck.Asks.{RefusedBy, Neither, Session, Own, IsOutcomeOf}
 use Rattle.query_answers.specs.declared.stuck.both.StuckQuery.{StuckQuery}
 

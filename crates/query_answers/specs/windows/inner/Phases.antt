@@ -8,7 +8,7 @@ use Rattle.journal_meaning.specs.Answers.{fill_count}
 use Rattle.journal_meaning.specs.Batches.{Batch}
 use Rattle.journal_meaning.specs.Grown.{IsFor, AreAdded}
 use Rattle.plan_machine.specs.Shards.{Shard}
-use Rattle.plan_machine.specs.inner.Settle.{IsOpen, AreVisited}
+use Rattle.plan_machine.specs.Standings.{IsOpen, AreVisited}
 use Rattle.plan_machine.specs.Settle.{IsSettled, AreAllSettled, journals_of, entries_in, charge_of}
 use Rattle.circuit_meaning.specs.declared.Run.{Run}
 use Rattle.reply_lines.specs.declared.reply.Outcome.{Outcome}

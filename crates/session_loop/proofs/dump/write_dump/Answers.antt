@@ -1,6 +1,6 @@
 use Rattle.std.proofs.Common.{◌∷◌, [], refl, sym, ap, subst, inr, ◌∙◌}
 use Rattle.texts.specs.Made.{Made}
-use Rattle.session_meaning.proofs.Journals.{prefix-same}
+use Rattle.session_meaning.proofs.Callers.{prefix-same}
 use Rattle.backsim_io.specs.State.{FileFault, WriteFault}
 use Rattle.session_loop.proofs.Growing.{file-part-of}
 use Rattle.session_loop.proofs.Dumping.{when-failed, when-passed, adds-file, adds-then, holds-last, dump-done}

@@ -1,7 +1,7 @@
 use Rattle.std.proofs.Common.{ℕ, ◌+◌, List, [], ◌∷◌, ◌++◌, map, ap, subst, ◌∙◌, refl}
 use Rattle.journal_text.specs.Spelling.{head_line}
 use Rattle.session_meaning.specs.Session.{IsSessionOf}
-use Rattle.session_meaning.proofs.Journals.{prefix-same}
+use Rattle.session_meaning.proofs.Callers.{prefix-same}
 use Rattle.session_loop.specs.Serving.{session_of, IsStopped}
 use Rattle.session_loop.specs.inner.Scripts.{Wrote}
 use Rattle.session_loop.specs.declared.stop.JournalStop.TheVariants.{OutOfMemory}

@@ -3,7 +3,7 @@ use Rattle.backsim_io.specs.FilesInMemory.{FileGrows}
 use Rattle.backsim_io.specs.State.{FilesState}
 use Rattle.journal_text.specs.Spelling.{section_lines}
 use Rattle.journal_text.specs.declared.sections.SectionKind.TheVariants.{Batch}
-use Rattle.session_meaning.proofs.Journals.{prefix-more}
+use Rattle.session_meaning.proofs.Callers.{prefix-more}
 use Rattle.session_loop.specs.Outside.{Seen, seen}
 use Rattle.session_loop.specs.inner.Desks.{IsHeldCounted}
 use Rattle.session_loop.specs.inner.Growing.{FileGrowsPart}

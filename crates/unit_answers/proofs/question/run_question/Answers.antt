@@ -1,4 +1,4 @@
-use Rattle.plan_core.proofs.RunsAlone.{numbered}
+use Rattle.plan_core.proofs.Callers.{numbered}
 use Rattle.unit_answers.specs.Stores.{setup_of}
 use Rattle.unit_answers.proofs.Questions.{question-done}
 use Rattle.unit_answers.proofs.Running.{fresh-free}

@@ -9,7 +9,7 @@ use Rattle.plan_machine.specs.Settle.{entries_in}
 use Rattle.memo_shards.specs.KeptShards.{KeptShard}
 use Rattle.plan_core.specs.InTurn.{AllChildrenCovered, booked_by}
 use Rattle.plan_core.specs.Parts.{shards_in, strands_in, AreInOrder}
-use Rattle.plan_core.proofs.RunsAlone.{numbered}
+use Rattle.plan_core.proofs.Callers.{numbered}
 use Rattle.unit_answers.proofs.Running.{strands-new, strands-started, settled-free, has-run}
 use Rattle.unit_answers.proofs.run.run_batch.Goals as goal
 

@@ -1,7 +1,7 @@
 use Rattle.std.proofs.Common.{rules, ◌≡◌, ◌<◌, take, length, slice_get, Some, refl, true, false, arith, sym, subst, inr}
 use Rattle.std.specs.BTreeMap.{get}
 use Rattle.valid_intervals.specs.Cells.{point_cmp}
-use Rattle.why_proofs.specs.inner.Known.{IsIndexOf}
+use Rattle.why_proofs.specs.Known.{IsIndexOf}
 use Rattle.why_proofs.proofs.Judging.{get-slice, accepted, refused, not-at, one-more, take-more}
 use Rattle.why_proofs.proofs.checker.check_cells.Goals as goal
 

@@ -3,7 +3,7 @@ use Rattle.std.proofs.Common.{take}
 use Rattle.std.specs.BTreeMap.{get}
 use Rattle.valid_intervals.specs.Cells.{point_cmp}
 use Rattle.why_proofs.specs.Justified.{AreJustified}
-use Rattle.why_proofs.specs.inner.Known.{AreTrueCells, IsIndexOf}
+use Rattle.why_proofs.specs.Known.{AreTrueCells, IsIndexOf}
 use Rattle.why_proofs.proofs.checker.check_cells.Given as goal
 
 abbrev pub invariant-loop-place : goal.invariant-loop-place

@@ -1,7 +1,7 @@
 use Rattle.std.proofs.Common.{rules, ◌≡◌, ◌++◌, ◌∷◌, [], List, length, ◌∙◌, ap, Some}
 use Rattle.valid_intervals.specs.declared.SignalCell.{SignalCell}
 use Rattle.why_proofs.specs.inner.Reading.{cell_at, cells_at}
-use Rattle.texts.proofs.Items.{shorter, put_all, put_next}
+use Rattle.texts.proofs.Callers.{shorter, put_all, put_next}
 use Rattle.why_proofs.proofs.Lines.{spelling}
 use Rattle.why_proofs.proofs.reading.cells_of.Goals as goal
 

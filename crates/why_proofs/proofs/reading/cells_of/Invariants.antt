@@ -1,7 +1,7 @@
 -- The lines that are left come after those read so far.
 use Rattle.std.proofs.Common.{◌≡◌, length}
 use Rattle.why_proofs.specs.inner.Reading.{cells_at}
-use Rattle.texts.proofs.Items.{put_all}
+use Rattle.texts.proofs.Callers.{put_all}
 use Rattle.why_proofs.proofs.reading.cells_of.Given as goal
 
 abbrev pub invariant-loop-cell : goal.invariant-loop-cell

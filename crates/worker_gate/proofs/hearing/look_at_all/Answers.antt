@@ -3,7 +3,7 @@ use Rattle.std.proofs.lemmas.Nat.{mod_below}
 use Rattle.std.proofs.lemmas.Option.{slice_get_within}
 use Rattle.plan_core.specs.asked.Memos.{entries_of}
 use Rattle.worker_gate.proofs.Heard.{fills-heard}
-use Rattle.plan_core.proofs.InTurn.{lawful-known}
+use Rattle.plan_core.proofs.Callers.{lawful-known}
 use Rattle.worker_gate.proofs.hearing.look_at_all.Goals as goal
 
 pub looks-requires-clause-lawful : goal.looks-requires-clause-lawful

@@ -5,7 +5,7 @@ use Rattle.journal_meaning.specs.declared.Entry.{Entry}
 use Rattle.journal_meaning.specs.declared.Entry.TheVariants as entry
 use Rattle.valid_intervals.specs.Cells.{stored_at}
 use Rattle.claim_waiters.specs.Claims.{Claims, claim_at, with_claim, without_claim}
-use Rattle.claim_waiters.proofs.Tables.{length-inserted, removed-inserted}
+use Rattle.claim_waiters.proofs.Callers.{length-inserted, removed-inserted}
 use Rattle.demand_points.specs.Demands.{Demand}
 use Rattle.memo_shards.specs.KeptShards.{KeptShard, shard_at}
 use Rattle.memo_shards.specs.inner.KeptShards.{waits_in}

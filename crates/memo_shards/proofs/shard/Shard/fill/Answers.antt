@@ -10,7 +10,7 @@ use Rattle.journal_meaning.specs.declared.Entry.{Entry}
 use Rattle.journal_meaning.specs.declared.Entry.TheVariants as entry
 use Rattle.plan_machine.specs.Shards.{filled_shard}
 use Rattle.claim_waiters.specs.Claims.{Claims, claim_at}
-use Rattle.claim_waiters.proofs.Tables.{length-removed}
+use Rattle.claim_waiters.proofs.Callers.{length-removed}
 use Rattle.demand_points.specs.Demands.{Demand}
 use Rattle.memo_shards.specs.KeptShards.{KeptShard, shard_at}
 use Rattle.memo_shards.specs.inner.KeptShards.{waits_in}

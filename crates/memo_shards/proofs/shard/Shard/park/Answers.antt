@@ -3,7 +3,7 @@ use Rattle.std.specs.BTreeMap.{is_at}
 use Rattle.journal_meaning.specs.States.{holder}
 use Rattle.valid_intervals.specs.Cells.{stored_at, point_cmp}
 use Rattle.claim_waiters.specs.Claims.{Claims}
-use Rattle.claim_waiters.proofs.Tables.{length-waited}
+use Rattle.claim_waiters.proofs.Callers.{length-waited}
 use Rattle.demand_points.specs.Demands.{Demand}
 use Rattle.memo_shards.specs.KeptShards.{KeptShard, shard_at}
 use Rattle.memo_shards.specs.inner.KeptShards.{waits_in}

@@ -6,7 +6,7 @@ use Rattle.journal_meaning.specs.declared.Entry.{Entry}
 use Rattle.journal_meaning.specs.declared.Entry.TheVariants as entry
 use Rattle.claim_waiters.specs.Claims.{Claims}
 use Rattle.valid_intervals.specs.Cells.{point_cmp}
-use Rattle.claim_waiters.proofs.Tables.{length-removed}
+use Rattle.claim_waiters.proofs.Callers.{length-removed}
 use Rattle.demand_points.specs.Demands.{Demand}
 use Rattle.memo_shards.specs.KeptShards.{KeptShard, shard_at}
 use Rattle.memo_shards.specs.inner.KeptShards.{waits_in}

@@ -1,6 +1,6 @@
 use Rattle.std.proofs.Common.{◌≡◌, ◌+◌, min, take, List, sym, ap, ap₂, ◌∙◌, arith}
 use Rattle.std.proofs.lemmas.List.{take_all}
-use Rattle.design.proofs.Rereads.{taken-at}
+use Rattle.design.proofs.Callers.{taken-at}
 use Rattle.plan_core.specs.declared.asked.fill_counts.FillCounts.{FillCounts}
 use Rattle.plan_core.specs.asked.FillCounts.{fills_in, fills_in_all}
 use Rattle.plan_core.proofs.Counted.{all-more}

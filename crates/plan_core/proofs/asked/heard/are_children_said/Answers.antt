@@ -3,7 +3,7 @@ use Rattle.valid_intervals.specs.declared.Point.{Point}
 use Rattle.circuit_meaning.specs.Circuit.{Circuit}
 use Rattle.design.specs.PinWalks.{looked_at}
 use Rattle.plan_core.specs.asked.Memos.{entries_of}
-use Rattle.plan_core.specs.asked.inner.Sources.{IsSourceCovered}
+use Rattle.plan_core.specs.asked.Sources.{IsSourceCovered}
 use Rattle.plan_core.proofs.Pins.{pins-visited}
 use Rattle.plan_core.proofs.asked.heard.are_children_said.Goals as goal
 

@@ -1,7 +1,7 @@
 use Rattle.std.proofs.Common.{◌≡◌, ◌<◌, ◌-◌, ℕ, None, get_or, length}
 use Rattle.design.specs.PinWalks.{IsPinWalk, looked_at}
 use Rattle.plan_core.specs.asked.Memos.{entries_of}
-use Rattle.plan_core.specs.asked.inner.Sources.{IsSourceCovered}
+use Rattle.plan_core.specs.asked.Sources.{IsSourceCovered}
 use Rattle.plan_core.proofs.asked.heard.are_children_said.Given as goal
 
 abbrev pub invariant-pins : goal.invariant-pins

@@ -3,7 +3,7 @@ use Rattle.std.proofs.lemmas.List.{get_or_default, take_all}
 use Rattle.std.proofs.lemmas.List.Elements.{All-push}
 use Rattle.std.proofs.lemmas.Option.{get_or_from_slice_get}
 use Rattle.journal_meaning.specs.declared.Entry.{Entry}
-use Rattle.design.proofs.Rereads.{taken-at}
+use Rattle.design.proofs.Callers.{taken-at}
 use Rattle.memo_shards.specs.KeptShards.{KeptShard}
 use Rattle.plan_core.specs.asked.Heard.{IsHeard}
 use Rattle.plan_core.specs.asked.Memos.{entries_of}

@@ -1,7 +1,7 @@
 use Rattle.std.proofs.Common.{true, false, OnSome, inl, sym, subst}
 use Rattle.circuit_meaning.specs.Circuit.{Circuit}
 use Rattle.circuit_meaning.specs.Need.{IsEvaluable}
-use Rattle.journal_meaning.specs.inner.Index.{cells_said, IsFound}
+use Rattle.journal_meaning.specs.Index.{cells_said, IsFound}
 use Rattle.plan_core.specs.Parts.{shards_in}
 use Rattle.plan_core.specs.asked.Memos.{at_time, asked_at, entries_of}
 use Rattle.plan_core.specs.asked.Asked.{HasAsked}

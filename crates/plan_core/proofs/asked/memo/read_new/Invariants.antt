@@ -4,8 +4,8 @@ use Rattle.std.specs.List.{AllByRecursion}
 use Rattle.circuit_meaning.specs.Circuit.{Circuit, IsCircuit}
 use Rattle.journal_meaning.specs.declared.Entry.{Entry}
 use Rattle.journal_meaning.specs.Answers.{fill_count}
-use Rattle.journal_meaning.specs.inner.Grown.{IsRightEntry}
-use Rattle.journal_meaning.specs.inner.Index.{cells_said, IsCellIndex}
+use Rattle.journal_meaning.specs.Listed.{IsRightEntry}
+use Rattle.journal_meaning.specs.Index.{cells_said, IsCellIndex}
 use Rattle.valid_intervals.specs.Cells.{point_cmp}
 use Rattle.plan_core.specs.asked.inner.Tails.{tails}
 use Rattle.plan_core.proofs.asked.memo.read_new.Given as goal

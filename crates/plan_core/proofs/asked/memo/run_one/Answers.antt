@@ -4,8 +4,8 @@ use Rattle.plan_machine.specs.Strands as strands
 use Rattle.plan_machine.specs.Plans.{Plan, new_plan}
 use Rattle.plan_machine.specs.Alone.{RanAlone}
 use Rattle.plan_machine.specs.Laws.{BeginsAlone}
-use Rattle.plan_machine.specs.inner.Settle.{AskedAlone}
-use Rattle.plan_machine.proofs.Settle.{begins, asked}
+use Rattle.plan_machine.specs.Standings.{AskedAlone}
+use Rattle.plan_machine.proofs.Callers.{begins, asked}
 use Rattle.demand_points.specs.Demands.{Demand}
 use Rattle.plan_core.specs.Parts.{AreFreshStrands, shards_in, strands_in}
 use Rattle.plan_core.specs.Refusals.{point_of}

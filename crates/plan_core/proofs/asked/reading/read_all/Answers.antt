@@ -3,8 +3,8 @@ use Rattle.std.specs.BTreeMap.{get}
 use Rattle.std.specs.List.{AllByRecursion}
 use Rattle.std.proofs.lemmas.List.{take_all}
 use Rattle.journal_meaning.specs.declared.Entry.{Entry}
-use Rattle.journal_meaning.specs.inner.Grown.{IsRightEntry}
-use Rattle.journal_meaning.specs.inner.Index.{cells_said, IsCellIndex}
+use Rattle.journal_meaning.specs.Listed.{IsRightEntry}
+use Rattle.journal_meaning.specs.Index.{cells_said, IsCellIndex}
 use Rattle.valid_intervals.specs.Cells.{point_cmp}
 use Rattle.plan_core.specs.asked.Memos.{entries_of}
 use Rattle.plan_core.proofs.Entries.{entries-item, entries-one}

@@ -1,5 +1,5 @@
 use Rattle.std.proofs.Common.{refl}
-use Rattle.plan_machine.proofs.AloneRuns.{alone-start}
+use Rattle.plan_machine.proofs.Callers.{alone-start}
 use Rattle.plan_core.proofs.plan.Plan.run_alone.Goals as goal
 
 pub turns-init : goal.turns-init

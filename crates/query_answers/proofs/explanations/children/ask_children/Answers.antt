@@ -3,16 +3,15 @@ use Rattle.std.specs.BTreeMap.{get}
 use Rattle.std.proofs.lemmas.List.{take_more}
 use Rattle.valid_intervals.specs.declared.Point.{Point}
 use Rattle.circuit_meaning.specs.Circuit.{Circuit}
-use Rattle.plan_machine.specs.inner.Settle.{Advances}
-use Rattle.plan_machine.proofs.Settle.{stays, then}
+use Rattle.plan_machine.specs.Standings.{Advances}
+use Rattle.plan_machine.proofs.Callers.{stays, then}
 use Rattle.design.specs.declared.pin_walk.PinWalk.{PinWalk}
 use Rattle.design.specs.PinWalks.{LooksOn, looked_at, next_point}
 use Rattle.plan_core.specs.Parts.{shards_in}
 use Rattle.plan_core.specs.asked.Asked.{AsksOn, Nothing}
 use Rattle.plan_core.specs.asked.Memos.{entries_of, is_missing}
-use Rattle.plan_core.specs.asked.inner.Standings.{live, standing}
-use Rattle.plan_core.proofs.RunsAlone.{some-of}
-use Rattle.plan_core.proofs.Asking.{asks-then}
+use Rattle.plan_core.specs.asked.Standings.{live, standing}
+use Rattle.plan_core.proofs.Callers.{some-of, asks-then}
 use Rattle.query_answers.specs.explanations.inner.Waiting.{place_cmp}
 use Rattle.query_answers.specs.explanations.inner.Gathered.{Looks}
 use Rattle.query_answers.proofs.Looks.{looks-none, looks-more}

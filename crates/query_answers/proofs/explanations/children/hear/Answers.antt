@@ -4,15 +4,14 @@ use Rattle.valid_intervals.specs.declared.Cell.{Cell}
 use Rattle.circuit_meaning.specs.Circuit.{Circuit}
 use Rattle.circuit_meaning.specs.Cells.{cell_at}
 use Rattle.circuit_meaning.specs.Need.{IsEvaluable}
-use Rattle.plan_machine.specs.inner.Settle.{Reaches}
+use Rattle.plan_machine.specs.Standings.{Reaches}
 use Rattle.plan_machine.specs.Settle.{sub_query}
-use Rattle.plan_machine.proofs.Settle.{child-start}
+use Rattle.plan_machine.proofs.Callers.{child-start}
 use Rattle.plan_core.specs.Parts.{shards_in}
 use Rattle.plan_core.specs.asked.Memos.{asked_at, is_missing}
 use Rattle.plan_core.specs.asked.Asked.{HasAsked, AsksOn, Nothing}
-use Rattle.plan_core.specs.asked.inner.Standings.{live, standing}
-use Rattle.plan_core.proofs.RunsAlone.{none-of, some-of}
-use Rattle.plan_core.proofs.Asking.{asks-point}
+use Rattle.plan_core.specs.asked.Standings.{live, standing}
+use Rattle.plan_core.proofs.Callers.{none-of, some-of, asks-point}
 use Rattle.query_answers.specs.declared.explanations.waiting.Asked.{Asked}
 use Rattle.query_answers.specs.explanations.inner.Waiting.{place_cmp}
 use Rattle.query_answers.proofs.Asking.{asked-reached, asked-looks}

@@ -1,12 +1,12 @@
 use Rattle.std.proofs.Common.{◌≡◌, [], Some, None, false, get_or, sym, subst, ◌∙◌}
 use Rattle.circuit_meaning.specs.Circuit.{Circuit}
-use Rattle.plan_machine.specs.inner.Settle.{Advances}
-use Rattle.plan_machine.proofs.Settle.{child-needed}
+use Rattle.plan_machine.specs.Standings.{Advances}
+use Rattle.plan_machine.proofs.Callers.{child-needed}
 use Rattle.design.specs.PinWalks.{IsPoint, looked_at}
 use Rattle.plan_core.specs.Parts.{shards_in}
 use Rattle.plan_core.specs.asked.Asked.{AsksOn, Nothing}
 use Rattle.plan_core.specs.asked.Memos.{is_missing}
-use Rattle.plan_core.specs.asked.inner.Standings.{live, standing}
+use Rattle.plan_core.specs.asked.Standings.{live, standing}
 use Rattle.query_answers.proofs.Moves.{source-child}
 use Rattle.query_answers.proofs.explanations.children.look.Goals as goal
 

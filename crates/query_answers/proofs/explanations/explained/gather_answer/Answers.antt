@@ -5,13 +5,12 @@ use Rattle.valid_intervals.specs.declared.Cell.{Cell}
 use Rattle.valid_intervals.specs.declared.SignalCell.{SignalCell}
 use Rattle.circuit_meaning.specs.Cells.{cell_at, point_at}
 use Rattle.session_meaning.specs.Explanations.{Explains}
-use Rattle.plan_machine.specs.inner.Settle.{IsStanding, Advances}
+use Rattle.plan_machine.specs.Standings.{IsStanding, Advances}
 use Rattle.plan_core.specs.Parts.{shards_in}
 use Rattle.plan_core.specs.asked.Asked.{AsksOn}
 use Rattle.plan_core.specs.asked.Memos.{entries_of, is_missing}
-use Rattle.plan_core.specs.asked.inner.Standings.{live, standing}
-use Rattle.plan_core.proofs.RunsAlone.{some-of}
-use Rattle.plan_core.proofs.Asking.{asks-then}
+use Rattle.plan_core.specs.asked.Standings.{live, standing}
+use Rattle.plan_core.proofs.Callers.{some-of, asks-then}
 use Rattle.query_answers.specs.explanations.inner.Waiting.{place_cmp}
 use Rattle.query_answers.specs.explanations.inner.Gathered.{Looks, AreExplained}
 use Rattle.query_answers.proofs.Answering.{known, root-needed, begins-standing, is-heard, answers-proof, answers-budget, journals-grown}

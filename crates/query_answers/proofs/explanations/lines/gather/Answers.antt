@@ -3,15 +3,14 @@ use Rattle.std.specs.BTreeMap.{get}
 use Rattle.valid_intervals.specs.declared.Point.{Point}
 use Rattle.valid_intervals.specs.declared.SignalCell.{SignalCell}
 use Rattle.circuit_meaning.specs.Circuit.{Circuit}
-use Rattle.plan_machine.specs.inner.Settle.{Advances}
-use Rattle.plan_machine.proofs.Settle.{stays, then}
-use Rattle.plan_machine.proofs.Underway.{contains-none}
+use Rattle.plan_machine.specs.Standings.{Advances}
+use Rattle.plan_machine.proofs.Callers.{stays, then, contains-none}
 use Rattle.design.specs.PinWalks.{IsPoint, looked_at}
 use Rattle.plan_core.specs.Parts.{shards_in}
 use Rattle.plan_core.specs.asked.Asked.{AsksOn, Nothing}
 use Rattle.plan_core.specs.asked.Memos.{entries_of}
-use Rattle.plan_core.specs.asked.inner.Standings.{live, standing}
-use Rattle.plan_core.proofs.Asking.{asks-then}
+use Rattle.plan_core.specs.asked.Standings.{live, standing}
+use Rattle.plan_core.proofs.Callers.{asks-then}
 use Rattle.query_answers.specs.explanations.inner.Waiting.{place_cmp, line_of, point_of}
 use Rattle.query_answers.specs.explanations.inner.Gathered.{Looks, AreGathered, AreSourcesKept, AreExplained, rank}
 use Rattle.query_answers.proofs.Gathering.{taken-first, wanted-point, steps, takes-less}

@@ -2,11 +2,11 @@ use Rattle.std.proofs.Common.{List, [], false, Contains, reverse}
 use Rattle.std.specs.BTreeMap.{get}
 use Rattle.valid_intervals.specs.declared.SignalCell.{SignalCell}
 use Rattle.plan_machine.specs.Shards.{Shard}
-use Rattle.plan_machine.specs.inner.Settle.{IsStanding, Advances}
+use Rattle.plan_machine.specs.Standings.{IsStanding, Advances}
 use Rattle.plan_core.specs.Parts.{shards_in}
 use Rattle.plan_core.specs.asked.Asked.{AsksOn}
 use Rattle.plan_core.specs.asked.Memos.{IsChargedMemo, entries_of}
-use Rattle.plan_core.specs.asked.inner.Standings.{live}
+use Rattle.plan_core.specs.asked.Standings.{live}
 use Rattle.query_answers.specs.explanations.inner.Waiting.{place_cmp}
 use Rattle.query_answers.specs.explanations.inner.Gathered.{AreSourcesKept, AreGathered, rank}
 use Rattle.query_answers.proofs.explanations.lines.gather.Given as goal

@@ -1,13 +1,13 @@
 use Rattle.std.proofs.Common.{◌≡◌, ◌++◌, List, sym, subst}
 use Rattle.journal_meaning.specs.declared.Entry.{Entry}
 use Rattle.journal_meaning.specs.Grown.{AreAdded}
-use Rattle.journal_meaning.proofs.Grown.{added-more}
+use Rattle.journal_meaning.proofs.Callers.{added-more}
 use Rattle.plan_machine.specs.Settle.{journals_of}
-use Rattle.plan_machine.proofs.Freed.{all-freed}
+use Rattle.plan_machine.proofs.Callers.{all-freed}
 use Rattle.memo_shards.specs.KeptShards.{KeptShard}
 use Rattle.plan_core.specs.Parts.{shards_in}
 use Rattle.plan_core.specs.asked.Asked.{AsksFreed}
-use Rattle.plan_core.proofs.Unused.{unused-freed}
+use Rattle.plan_core.proofs.Callers.{unused-freed}
 use Rattle.session_meaning.specs.FirstTimes.{up_to_first}
 use Rattle.reply_lines.specs.Replies.{is_budget}
 use Rattle.query_answers.proofs.first_times.firsts.first_time.Goals as goal

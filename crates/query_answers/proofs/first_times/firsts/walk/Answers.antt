@@ -2,12 +2,12 @@ use Rattle.std.proofs.Common.{◌≡◌, ◌<◌, Bool, true, false, None, Some,
 use Rattle.gate_values.specs.Gates.{same_value}
 use Rattle.valid_intervals.specs.declared.Cell.{Cell}
 use Rattle.circuit_meaning.specs.Cells.{span, cell_at}
-use Rattle.circuit_meaning.proofs.Cover.{cell-covers}
+use Rattle.circuit_meaning.proofs.Callers.{cell-covers}
 use Rattle.plan_machine.specs.Settle.{sub_query}
 use Rattle.plan_core.specs.Parts.{shards_in}
 use Rattle.plan_core.specs.asked.Memos.{asked_at, at_time, is_missing}
 use Rattle.plan_core.specs.asked.Asked.{HasAsked, Nothing}
-use Rattle.plan_core.proofs.RunsAlone.{some-of}
+use Rattle.plan_core.proofs.Callers.{some-of}
 use Rattle.query_answers.proofs.Finding.{goes-on, has}
 use Rattle.query_answers.proofs.Walks.{IsWalking, instant, begins, in-time, root-start, asks-more, journals-of-reach, goes-by, ends-here, ends-never}
 use Rattle.query_answers.proofs.first_times.firsts.walk.Goals as goal

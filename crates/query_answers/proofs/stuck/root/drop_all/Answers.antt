@@ -1,7 +1,7 @@
 use Rattle.std.proofs.Common.{◌∷◌, [], refl, sym, ap, ◌∙◌}
 use Rattle.journal_meaning.specs.declared.Entry.TheVariants.{Dropped}
 use Rattle.plan_machine.specs.Shards.{Shard}
-use Rattle.plan_machine.proofs.Ready.{has-ended}
+use Rattle.plan_machine.proofs.Callers.{has-ended}
 use Rattle.query_answers.proofs.Held.{held-lawful}
 use Rattle.query_answers.specs.stuck.Asks.{RefusedBy}
 use Rattle.query_answers.specs.stuck.inner.Both.{GivesUp, site_in}

@@ -5,8 +5,7 @@ use Rattle.journal_meaning.specs.Batches.{Batch}
 use Rattle.memo_shards.specs.KeptShards.{KeptShard}
 use Rattle.plan_core.specs.Parts.{shards_in}
 use Rattle.plan_core.specs.asked.Asked.{AsksOn, Nothing}
-use Rattle.plan_core.proofs.RunsAlone.{none-of}
-use Rattle.plan_core.proofs.Asking.{asks-then}
+use Rattle.plan_core.proofs.Callers.{none-of, asks-then}
 use Rattle.query_answers.specs.stuck.Asks.{Neither, is_session}
 use Rattle.design.specs.Joined.{Joined}
 use Rattle.query_answers.specs.stuck.inner.Both.{IsAsked, Rests}

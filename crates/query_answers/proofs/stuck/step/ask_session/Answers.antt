@@ -4,7 +4,7 @@ use Rattle.circuit_meaning.specs.Cells.{cell_at}
 use Rattle.plan_core.specs.Parts.{shards_in}
 use Rattle.plan_core.specs.asked.Asked.{AsksOn}
 use Rattle.plan_core.specs.asked.Memos.{is_missing}
-use Rattle.plan_core.proofs.RunsAlone.{some-of}
+use Rattle.plan_core.proofs.Callers.{some-of}
 use Rattle.query_answers.specs.stuck.Asks.{Session}
 use Rattle.query_answers.proofs.Steps.{step-asks, step-starts, step-cell, step-session, step-heard, step-refused}
 use Rattle.query_answers.proofs.stuck.step.ask_session.Goals as goal

@@ -1,6 +1,6 @@
 use Rattle.std.proofs.lemmas.Result.{IfOk-weaker}
 use Rattle.plan_core.specs.Parts.{shards_in}
-use Rattle.plan_core.proofs.Unused.{unused-freed}
+use Rattle.plan_core.proofs.Callers.{unused-freed}
 use Rattle.query_answers.proofs.stuck.wave.stuck_wave.Goals as goal
 
 pub answer-requires-clause-unused : goal.answer-requires-clause-unused

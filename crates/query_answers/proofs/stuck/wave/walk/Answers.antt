@@ -3,14 +3,14 @@ use Rattle.valid_intervals.specs.declared.Cell.{Cell}
 use Rattle.circuit_meaning.specs.Cells.{cell_at, span}
 use Rattle.circuit_meaning.specs.Forward.{wave}
 use Rattle.circuit_meaning.specs.Need.{IsRoot}
-use Rattle.circuit_meaning.proofs.Alike.{held-fits}
+use Rattle.circuit_meaning.proofs.Callers.{held-fits}
 use Rattle.journal_meaning.specs.Batches.{Batch, window_of}
 use Rattle.session_meaning.specs.StuckSignals.{stuck_circuit, IsCoveredBy}
 use Rattle.plan_machine.specs.Settle.{charge_of, root_start}
-use Rattle.plan_machine.proofs.Settle.{right-of}
+use Rattle.plan_machine.proofs.Callers.{right-of}
 use Rattle.plan_core.specs.Parts.{shards_in}
 use Rattle.plan_core.specs.asked.Memos.{at_time, entries_of, is_missing}
-use Rattle.plan_core.proofs.RunsAlone.{some-of}
+use Rattle.plan_core.proofs.Callers.{some-of}
 use Rattle.query_answers.specs.stuck.Asks.{HearsRoot, Nothing, Root}
 use Rattle.design.specs.Joined.{Joined}
 use Rattle.query_answers.specs.stuck.inner.Both.{IsAsked, Rests, site_in}

@@ -1,9 +1,9 @@
 use Rattle.std.proofs.Common.{false, true, ap, sym, subst}
-use Rattle.plan_machine.specs.inner.Settle.{Advances, IsCoveredTo}
+use Rattle.plan_machine.specs.Standings.{Advances, IsCoveredTo}
 use Rattle.plan_core.specs.Parts.{shards_in}
 use Rattle.plan_core.specs.asked.Asked.{AsksOn, Nothing}
 use Rattle.plan_core.specs.asked.Memos.{is_missing}
-use Rattle.plan_core.specs.asked.inner.Standings.{live, standing}
+use Rattle.plan_core.specs.asked.Standings.{live, standing}
 use Rattle.query_answers.proofs.Phases.{walks-refused, walk-begins, walks}
 use Rattle.query_answers.proofs.windows.answers.answer_one.Goals as goal
 

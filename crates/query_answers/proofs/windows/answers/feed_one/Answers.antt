@@ -1,7 +1,7 @@
 use Rattle.std.proofs.Common.{List, All, subst, arith}
 use Rattle.valid_intervals.specs.declared.Point.{Point}
-use Rattle.plan_machine.specs.inner.Settle.{IsVisited}
-use Rattle.plan_machine.proofs.Settle.{begins-query}
+use Rattle.plan_machine.specs.Standings.{IsVisited}
+use Rattle.plan_machine.proofs.Callers.{begins-query}
 use Rattle.plan_core.specs.Parts.{shards_in}
 use Rattle.plan_core.specs.asked.Memos.{entries_of}
 use Rattle.query_answers.proofs.Phases.{feeds}

@@ -5,8 +5,7 @@ use Rattle.plan_core.specs.Parts.{shards_in}
 use Rattle.query_answers.specs.declared.windows.answers.Fed.{Fed}
 use Rattle.plan_core.specs.asked.FillCounts.{HaveCounted}
 use Rattle.plan_core.specs.asked.Memos.{entries_of}
-use Rattle.plan_core.proofs.RunsAlone.{some-of}
-use Rattle.plan_core.proofs.Counted.{freed-counted}
+use Rattle.plan_core.proofs.Callers.{some-of, freed-counted}
 use Rattle.query_answers.specs.windows.inner.Phases.{IsWalking, refused_in}
 use Rattle.query_answers.specs.windows.Phases.{refused_of}
 use Rattle.query_answers.specs.windows.Settlement.{AskInTurn, none_refused, HasSettled}

@@ -3,7 +3,7 @@ use Rattle.std.specs.List.{AllByRecursion}
 use Rattle.std.proofs.lemmas.Result.{on_ok_weaker}
 use Rattle.journal_meaning.specs.Pieces.{Start, IsStart, pieces}
 use Rattle.plan_machine.specs.Strands.{started_strand}
-use Rattle.journal_meaning.proofs.Pieces.{pieces-lawful}
+use Rattle.journal_meaning.proofs.Callers.{pieces-lawful}
 use Rattle.plan_core.specs.Parts.{strands_in}
 use Rattle.query_answers.specs.windows.inner.Starts.{piece_start}
 use Rattle.query_answers.proofs.Pieces.{pieces-by, last-start, last-left, next-start, next-left}

@@ -2,7 +2,7 @@ use Rattle.std.proofs.Common.{◌++◌, ◌∷◌, [], List, Option, map, ap, ap
 use Rattle.std.proofs.lemmas.List.{take_all}
 use Rattle.session_meaning.specs.declared.Verdict.{Verdict}
 use Rattle.session_meaning.specs.Verdicts.{verdict_of}
-use Rattle.plan_core.proofs.AskedLists.{map-item}
+use Rattle.plan_core.proofs.Callers.{map-item}
 use Rattle.query_answers.proofs.windows.verdicts.verdicts_of.Goals as goal
 
 pub loop-item-preserved : goal.loop-item-preserved

@@ -1,16 +1,15 @@
 use Rattle.std.proofs.Common.{◌≡◌, ◌<◌, length, Some, None, false, sym, ap, subst, ◌∙◌, arith, get_or}
 use Rattle.circuit_meaning.specs.Circuit.{Circuit}
-use Rattle.plan_machine.specs.inner.Settle.{Advances}
-use Rattle.plan_machine.proofs.Settle.{child-needed}
+use Rattle.plan_machine.specs.Standings.{Advances}
+use Rattle.plan_machine.proofs.Callers.{child-needed}
 use Rattle.design.specs.PinWalks.{looked_at}
 use Rattle.plan_core.specs.Parts.{shards_in}
 use Rattle.plan_core.specs.asked.Asked.{AsksOn, Nothing}
 use Rattle.plan_core.specs.asked.Memos.{entries_of, is_missing}
-use Rattle.plan_core.specs.asked.inner.Standings.{live, standing}
-use Rattle.plan_core.specs.asked.inner.Sources.{IsSourceCovered}
+use Rattle.plan_core.specs.asked.Standings.{live, standing}
+use Rattle.plan_core.specs.asked.Sources.{IsSourceCovered}
 use Rattle.plan_machine.specs.Settle.{sub_query}
-use Rattle.plan_core.proofs.AskedCells.{reaches}
-use Rattle.plan_core.proofs.Asking.{asks-point}
+use Rattle.plan_core.proofs.Callers.{reaches, asks-point}
 use Rattle.query_answers.proofs.Pins.{source-start, source-child, child-asks}
 use Rattle.query_answers.proofs.windows.visits.look.Goals as goal
 

@@ -4,17 +4,15 @@ use Rattle.valid_intervals.specs.declared.Point.{Point}
 use Rattle.circuit_meaning.specs.Circuit.{Circuit}
 use Rattle.circuit_meaning.specs.Need.{IsEvaluable}
 use Rattle.journal_meaning.specs.Batches.{IsNeededBy}
-use Rattle.plan_machine.specs.inner.Settle.{Advances}
-use Rattle.plan_machine.proofs.Settle.{stays, then}
+use Rattle.plan_machine.specs.Standings.{Advances}
+use Rattle.plan_machine.proofs.Callers.{stays, then}
 use Rattle.design.specs.PinWalks.{IsPoint, LooksOn, looked_at}
 use Rattle.plan_core.specs.Parts.{shards_in}
 use Rattle.plan_core.specs.asked.Asked.{AsksOn, Nothing}
 use Rattle.plan_core.specs.asked.Memos.{entries_of, is_missing}
-use Rattle.plan_core.specs.asked.inner.Standings.{live, standing}
-use Rattle.plan_core.specs.asked.inner.Sources.{IsSourceCovered}
-use Rattle.plan_core.proofs.RunsAlone.{some-of}
-use Rattle.plan_core.proofs.Asking.{asks-then}
-use Rattle.plan_core.proofs.Pins.{pins-visited}
+use Rattle.plan_core.specs.asked.Standings.{live, standing}
+use Rattle.plan_core.specs.asked.Sources.{IsSourceCovered}
+use Rattle.plan_core.proofs.Callers.{some-of, asks-then, pins-visited}
 use Rattle.query_answers.proofs.Pins.{needed-has, needed-point, source-kept}
 use Rattle.query_answers.proofs.windows.visits.settle_children.Goals as goal
 

@@ -1,13 +1,13 @@
 use Rattle.std.proofs.Common.{◌≡◌, ◌<◌, ◌-◌, ℕ, List, None, false, get_or, length}
 use Rattle.journal_meaning.specs.declared.Entry.{Entry}
 use Rattle.plan_machine.specs.Shards.{Shard}
-use Rattle.plan_machine.specs.inner.Settle.{IsStanding, Advances}
+use Rattle.plan_machine.specs.Standings.{IsStanding, Advances}
 use Rattle.design.specs.PinWalks.{IsPinWalk, looked_at}
 use Rattle.plan_core.specs.Parts.{shards_in}
 use Rattle.plan_core.specs.asked.Asked.{AsksOn}
 use Rattle.plan_core.specs.asked.Memos.{IsChargedMemo, entries_of}
-use Rattle.plan_core.specs.asked.inner.Standings.{live}
-use Rattle.plan_core.specs.asked.inner.Sources.{IsSourceCovered}
+use Rattle.plan_core.specs.asked.Standings.{live}
+use Rattle.plan_core.specs.asked.Sources.{IsSourceCovered}
 use Rattle.query_answers.proofs.windows.visits.settle_children.Given as goal
 
 abbrev pub invariant-pins : goal.invariant-pins

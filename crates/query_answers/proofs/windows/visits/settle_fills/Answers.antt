@@ -5,13 +5,13 @@ use Rattle.std.proofs.lemmas.List.Elements.{All-weaker}
 use Rattle.circuit_meaning.specs.Need.{children}
 use Rattle.journal_meaning.specs.Answers.{IsCovered}
 use Rattle.plan_machine.specs.Settle.{Standing}
-use Rattle.plan_machine.specs.inner.Settle.{Advances, IsVisited}
-use Rattle.plan_machine.proofs.Settle.{stays, then}
+use Rattle.plan_machine.specs.Standings.{Advances, IsVisited}
+use Rattle.plan_machine.proofs.Callers.{stays, then}
 use Rattle.plan_core.specs.Parts.{shards_in}
 use Rattle.plan_core.specs.asked.Asked.{AsksOn, Nothing}
-use Rattle.plan_core.proofs.Asking.{asks-then}
+use Rattle.plan_core.proofs.Callers.{asks-then}
 use Rattle.plan_core.specs.asked.Memos.{entries_of}
-use Rattle.plan_core.specs.asked.inner.Standings.{live, standing}
+use Rattle.plan_core.specs.asked.Standings.{live, standing}
 use Rattle.query_answers.proofs.windows.visits.settle_fills.Goals as goal
 
 pub loop-p-init : goal.loop-p-init

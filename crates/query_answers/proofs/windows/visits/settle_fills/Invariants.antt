@@ -2,11 +2,11 @@ use Rattle.std.proofs.Common.{ℕ, ◌<◌, List, false, get_or}
 use Rattle.valid_intervals.specs.declared.Point.{Point}
 use Rattle.journal_meaning.specs.declared.Entry.{Entry}
 use Rattle.plan_machine.specs.Shards.{Shard}
-use Rattle.plan_machine.specs.inner.Settle.{IsStanding, Advances, IsVisited}
+use Rattle.plan_machine.specs.Standings.{IsStanding, Advances, IsVisited}
 use Rattle.plan_core.specs.Parts.{shards_in}
 use Rattle.plan_core.specs.asked.Asked.{AsksOn}
 use Rattle.plan_core.specs.asked.Memos.{IsChargedMemo, entries_of}
-use Rattle.plan_core.specs.asked.inner.Standings.{live}
+use Rattle.plan_core.specs.asked.Standings.{live}
 use Rattle.query_answers.proofs.windows.visits.settle_fills.Given as goal
 
 abbrev pub invariant-loop-p : goal.invariant-loop-p

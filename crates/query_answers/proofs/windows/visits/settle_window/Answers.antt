@@ -3,19 +3,16 @@ use Rattle.valid_intervals.specs.declared.Cell.{Cell}
 use Rattle.circuit_meaning.specs.Cells.{span, cell_at}
 use Rattle.circuit_meaning.specs.Cells as cells
 use Rattle.circuit_meaning.specs.Need.{IsRoot, First, Next}
-use Rattle.circuit_meaning.proofs.Cover.{cell-covers}
+use Rattle.circuit_meaning.proofs.Callers.{cell-covers}
 use Rattle.journal_meaning.specs.Batches.{window_of}
-use Rattle.plan_machine.proofs.Wanted.{within-of}
-use Rattle.plan_machine.specs.inner.Settle.{Advances, Reaches, IsCoveredTo}
-use Rattle.plan_machine.proofs.Settle.{stays, then, window-step}
+use Rattle.plan_machine.proofs.Callers.{within-of, stays, then, window-step}
+use Rattle.plan_machine.specs.Standings.{Advances, Reaches, IsCoveredTo}
 use Rattle.plan_core.specs.Parts.{shards_in}
 use Rattle.plan_core.specs.asked.Asked.{AsksOn, Nothing}
 use Rattle.plan_core.specs.asked.Memos.{entries_of, is_missing, at_time}
-use Rattle.plan_core.specs.asked.inner.Standings.{live, standing}
-use Rattle.plan_core.proofs.AskedCells.{reaches}
-use Rattle.plan_core.proofs.Asking.{asks-then, asks-root}
+use Rattle.plan_core.specs.asked.Standings.{live, standing}
+use Rattle.plan_core.proofs.Callers.{reaches, asks-then, asks-root, some-of}
 use Rattle.query_answers.proofs.Pins.{root-asks}
-use Rattle.plan_core.proofs.RunsAlone.{some-of}
 use Rattle.query_answers.proofs.windows.visits.settle_window.Goals as goal
 
 pub roots-init : goal.roots-init

@@ -3,12 +3,12 @@ use Rattle.circuit_meaning.specs.Need.{IsRoot}
 use Rattle.journal_meaning.specs.declared.Entry.{Entry}
 use Rattle.journal_meaning.specs.Batches.{window_of}
 use Rattle.plan_machine.specs.Shards.{Shard}
-use Rattle.plan_machine.specs.inner.Settle.{IsStanding, Advances, IsCoveredTo}
+use Rattle.plan_machine.specs.Standings.{IsStanding, Advances, IsCoveredTo}
 use Rattle.window_walks.specs.Walks.{IsWalked}
 use Rattle.plan_core.specs.Parts.{shards_in}
 use Rattle.plan_core.specs.asked.Asked.{AsksOn}
 use Rattle.plan_core.specs.asked.Memos.{IsChargedMemo}
-use Rattle.plan_core.specs.asked.inner.Standings.{live}
+use Rattle.plan_core.specs.asked.Standings.{live}
 use Rattle.query_answers.proofs.windows.visits.settle_window.Given as goal
 
 abbrev pub invariant-roots : goal.invariant-roots

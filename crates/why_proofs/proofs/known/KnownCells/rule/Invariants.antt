@@ -5,7 +5,7 @@ use Rattle.valid_intervals.specs.Cells.{point_cmp}
 use Rattle.valid_intervals.specs.declared.SignalCell.{SignalCell}
 use Rattle.why_proofs.specs.Justified.{answer}
 use Rattle.design.specs.PinWalks.{IsPinWalk, looked_at}
-use Rattle.why_proofs.specs.inner.Known.{AreKnown, IsIndexOf}
+use Rattle.why_proofs.specs.Known.{AreKnown, IsIndexOf}
 use Rattle.why_proofs.proofs.known.KnownCells.rule.Given as goal
 
 abbrev pub invariant-pins : goal.invariant-pins

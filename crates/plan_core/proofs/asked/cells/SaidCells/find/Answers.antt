@@ -3,8 +3,8 @@ use Rattle.std.specs.BTreeMap.{get}
 use Rattle.valid_intervals.specs.declared.Cell.{Cell}
 use Rattle.valid_intervals.specs.declared.Point.{Point}
 use Rattle.valid_intervals.specs.Cells.{point_cmp}
-use Rattle.journal_meaning.specs.inner.Index.{IsFound}
-use Rattle.journal_meaning.proofs.Index.{found-right, found-some, none-before, none-last}
+use Rattle.journal_meaning.specs.Index.{IsFound}
+use Rattle.journal_meaning.proofs.Callers.{found-right, found-some, none-before, none-last}
 use Rattle.plan_core.proofs.asked.cells.SaidCells.find.Goals as goal
 use Rattle.plan_core.proofs.asked.cells.SaidCells.find.Goals.{else-first-p-via-then-first-p+else-covers, else-first-p-via-else-first-p}
 

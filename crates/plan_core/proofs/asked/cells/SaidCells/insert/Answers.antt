@@ -2,7 +2,7 @@ use Rattle.std.proofs.Common.{◌≡◌, ap}
 use Rattle.std.specs.BTreeMap.{get}
 use Rattle.valid_intervals.specs.declared.Point.{Point}
 use Rattle.valid_intervals.specs.Cells.{point_cmp}
-use Rattle.journal_meaning.proofs.Index.{index-more}
+use Rattle.journal_meaning.proofs.Callers.{index-more}
 use Rattle.plan_core.proofs.asked.cells.SaidCells.insert.Goals as goal
 
 pub returns : goal.returns

@@ -1,7 +1,7 @@
 use Rattle.std.specs.BTreeMap.{get}
 use Rattle.std.proofs.lemmas.Result.{on_ok_weaker}
 use Rattle.journal_meaning.specs.Entries.{SaidCell}
-use Rattle.journal_meaning.specs.inner.Index.{cells_said}
+use Rattle.journal_meaning.specs.Index.{cells_said}
 use Rattle.valid_intervals.specs.Cells.{point_cmp}
 use Rattle.plan_core.proofs.Exact.{right-cell}
 use Rattle.plan_core.proofs.AskedIndex.{index-said, index-silent}

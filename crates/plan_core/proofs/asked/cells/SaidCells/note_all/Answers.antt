@@ -1,10 +1,10 @@
 use Rattle.std.proofs.Common.{[], ◌∷◌, ◌++◌, take, sym, subst, arith, append_assoc, append-nil}
 use Rattle.std.specs.BTreeMap.{get}
 use Rattle.std.proofs.lemmas.List.{take_all}
-use Rattle.journal_meaning.specs.inner.Grown.{IsRightEntry}
-use Rattle.journal_meaning.specs.inner.Index.{cells_said, IsCellIndex}
+use Rattle.journal_meaning.specs.Listed.{IsRightEntry}
+use Rattle.journal_meaning.specs.Index.{cells_said, IsCellIndex}
 use Rattle.valid_intervals.specs.Cells.{point_cmp}
-use Rattle.design.proofs.Rereads.{taken-at}
+use Rattle.design.proofs.Callers.{taken-at}
 use Rattle.plan_core.proofs.AskedLists.{each-item}
 use Rattle.plan_core.proofs.asked.cells.SaidCells.note_all.Goals as goal
 

@@ -1,7 +1,7 @@
 use Rattle.std.proofs.Common.{◌++◌, ◌∷◌, [], List, take, sym, ap, subst, ◌∙◌, arith, append_assoc, append-nil}
 use Rattle.std.proofs.lemmas.List.{take_all}
 use Rattle.journal_meaning.specs.declared.Entry.{Entry}
-use Rattle.design.proofs.Rereads.{taken-at}
+use Rattle.design.proofs.Callers.{taken-at}
 use Rattle.plan_core.specs.asked.FillCounts.{HasCounted}
 use Rattle.plan_core.proofs.asked.fill_counts.FillCounts.note_all.Goals as goal
 

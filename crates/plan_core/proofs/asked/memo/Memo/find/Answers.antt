@@ -1,11 +1,11 @@
 use Rattle.std.proofs.Common.{Option, IfNone, IfSome, OnSome, List, subst, sym}
 use Rattle.std.specs.BTreeMap.{get}
-use Rattle.journal_meaning.specs.inner.Grown.{IsRightEntry}
-use Rattle.journal_meaning.specs.inner.Index.{cells_said, IsFound, IsCellIndex}
-use Rattle.journal_meaning.proofs.Lists.{Each}
+use Rattle.journal_meaning.specs.Listed.{IsRightEntry}
+use Rattle.journal_meaning.specs.Index.{cells_said, IsFound, IsCellIndex}
+use Rattle.journal_meaning.proofs.Callers.{Each}
 use Rattle.valid_intervals.specs.Cells.{point_cmp}
 use Rattle.plan_machine.specs.Sound.{IsFresh}
-use Rattle.plan_machine.proofs.Settle.{right-of}
+use Rattle.plan_machine.proofs.Callers.{right-of}
 use Rattle.memo_shards.specs.KeptShards.{KeptShard}
 use Rattle.plan_core.specs.Parts.{shards_in}
 use Rattle.plan_core.specs.declared.asked.cells.SaidCells.{SaidCells}

@@ -5,7 +5,7 @@ use Rattle.journal_meaning.specs.declared.Entry.{Entry}
 use Rattle.plan_machine.specs.Settling.{fills_of}
 use Rattle.memo_shards.specs.KeptShards.{KeptShard}
 use Rattle.plan_core.specs.asked.Memos.{entries_of}
-use Rattle.plan_core.proofs.Entries.{entries-item}
+use Rattle.plan_core.proofs.Callers.{entries-item}
 use Rattle.query_answers.proofs.Filled.{fills-append}
 use Rattle.query_answers.proofs.windows.fills.FilledPoints.gather.Goals as goal
 

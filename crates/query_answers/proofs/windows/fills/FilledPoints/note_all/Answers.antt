@@ -5,7 +5,7 @@ use Rattle.std.proofs.lemmas.List.{take_all}
 use Rattle.valid_intervals.specs.declared.Point.{Point}
 use Rattle.journal_meaning.specs.declared.Entry.{Entry}
 use Rattle.plan_machine.specs.Settling.{fills_of}
-use Rattle.design.proofs.Rereads.{taken-at}
+use Rattle.design.proofs.Callers.{taken-at}
 use Rattle.query_answers.specs.windows.inner.Fills.{points_in}
 use Rattle.query_answers.proofs.Filled.{fills-append}
 use Rattle.query_answers.proofs.windows.fills.FilledPoints.note_all.Goals as goal

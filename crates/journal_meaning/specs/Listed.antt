@@ -1,4 +1,4 @@
--- Definitions for proofs and private functions, beside `Grown`.
+-- The entries in the lists of shards: for whom they are, where they belong, and whether their cells are right.
 use Rattle.std.specs.Prelude.{◌≡◌, ◌≢◌, ◌++◌, ◌+◌, ◌<◌, ◌≤◌, ◌⊎◌, ℕ, List, [], length, slice_index_or}
 use Rattle.std.specs.List.{AllByRecursion}
 use Rattle.journal_meaning.specs.declared.Entry.{Entry}

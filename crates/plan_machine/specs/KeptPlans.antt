@@ -7,7 +7,7 @@ use Rattle.journal_meaning.specs.Batches.{shard_number}
 use Rattle.plan_machine.specs.Strands.{Strand}
 use Rattle.plan_machine.specs.Shards.{Shard}
 use Rattle.plan_machine.specs.Plans.{Plan, no_shard}
-use Rattle.plan_machine.specs.inner.Parts.{NumberedStrand, AreParts, strands_from}
+use Rattle.plan_machine.specs.Parts.{NumberedStrand, AreParts, strands_from}
 
 -- a strand that waits at a point
 pub record Parked : Type 0 where

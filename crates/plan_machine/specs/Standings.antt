@@ -1,4 +1,4 @@
--- Definitions for proofs and private functions, beside `Settle`.
+-- How settlement stands on its way: what a strand alone left, which points are visited, and what was added since a query was reached.
 use Rattle.std.specs.Prelude.{◌≡◌, ◌≢◌, ℕ, ◌+◌, ◌≤◌, ◌<◌, Bool, true, false, List, [], ◌∷◌, All, Contains, Option}
 use Rattle.std.specs.List.{AllByRecursion}
 use Rattle.valid_intervals.specs.declared.Cell.{Cell}
@@ -12,7 +12,7 @@ use Rattle.journal_meaning.specs.declared.batch.Query.{Query}
 use Rattle.journal_meaning.specs.Batches.{Batch}
 use Rattle.journal_meaning.specs.Answers.{IsCovered, fill_count, IsSpent}
 use Rattle.journal_meaning.specs.Grown.{IsFor, refusals, GrowsBy, AreAdded}
-use Rattle.journal_meaning.specs.inner.Grown.{AreTimesCovered}
+use Rattle.journal_meaning.specs.Listed.{AreTimesCovered}
 use Rattle.journal_meaning.specs.Pieces.{Start}
 use Rattle.plan_machine.specs.Shards.{Shard}
 use Rattle.plan_machine.specs.Sound.{IsFresh}

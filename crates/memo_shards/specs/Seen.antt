@@ -1,7 +1,7 @@
 -- A shard in the words of the plan.
 use Rattle.std.specs.Prelude.{map}
-use Rattle.plan_machine.specs.inner.Parts.{NumberedStrand}
-use Rattle.plan_machine.specs.inner.KeptPlans.{Parked, WaitedShard}
+use Rattle.plan_machine.specs.Parts.{NumberedStrand}
+use Rattle.plan_machine.specs.KeptPlans.{Parked, WaitedShard}
 use Rattle.demand_points.specs.Demands.{Demand}
 use Rattle.memo_shards.specs.KeptShards.{Waiting, KeptShard}
 

@@ -1,3 +1,0 @@
-pub mod KeptPlans
-pub mod Parts
-pub mod Settle
