@@ -57,7 +57,7 @@ def test_a_window_has_its_inputs_clocks_and_flip_flops(capsys, write, tmp_path) 
     assert "the netlist has flip-flops, whose clocks and initial values a window shifts" in capsys.readouterr().err
 
 
-@pytest.mark.parametrize("words, cause", [(("--from", "2us"), "the dump ends at 100000 ticks, before 200000"), (("--from", 9, "--to", 3), "before its beginning"),
+@pytest.mark.parametrize("words, cause", [(("--from", "2us"), "the dump ends at 1 us, before 2 us"), (("--from", "9ns", "--to", 3), "the window ends at 3, before its beginning at 9ns"),
                                           (("--from", "3 parsecs"), "is no time"), (("--from", "1.5ns"), "is between two units of 1 ns")])
 def test_windows_that_are_refused(words: tuple, cause: str, capsys, write, tmp_path) -> None:
     files = write("n", NETLIST), write("d.vcd", counted(100)), write("t", TIMING)
@@ -148,7 +148,7 @@ def test_files_of_different_units_are_not_joined(write) -> None:
     assert isinstance(read_vcd(write("d", counted(2))), Vcd)
 
 
-def test_times_are_said_in_seconds(write, program, monkeypatch, tmp_path, capsys) -> None:
+def test_times_are_said_in_seconds(write, program, tools, monkeypatch, tmp_path, capsys) -> None:
     """By the unit that the files state: in Python, and on the command line."""
     monkeypatch.setenv("BACKSIM", program)
     files = [write("n", "INPUT(a)\ny[0] = NOT(a)\ny[1] = BUFF(a)\n"), write("t", "# unit 10 ps\ndefault 1\n"), write("s", "# unit 10 ps\nhorizon 500\nset a 0 0\nset a 100 1\n")]
@@ -161,8 +161,17 @@ def test_times_are_said_in_seconds(write, program, monkeypatch, tmp_path, capsys
         assert asked.result().value == "10"
         with pytest.raises(UsageError, match="is between two units of 10 ps"):
             session.at("y[0]", "1ps")
+        with pytest.raises(UsageError, match="3s is 300,000,000,000 units of 10 ps, after the greatest time, 4,294,967,294"):
+            session.at("y[0]", "3s")
     assert main(["why", *map(str, files), "y", "1.01ns"]) == 0
     assert "y[1:0]" in capsys.readouterr().out
+    # 3 s are 3 * 10**11 units of 10 ps, more than any line can ask for; a window may end one unit after the horizon, at 5.01 ns
+    beyond = "3s is 300,000,000,000 units of 10 ps, after the horizon, 500\n"
+    for words in (["why", *files, "y", "3s"], ["draw", *files, "y", "--to", "3s", "-o", tmp_path / "o.svg"]):
+        assert main(list(map(str, words))) == 2 and capsys.readouterr().err == beyond
+    done = tools("ask", *files, input=b"y 3s\ny 5.01ns\nfirst y 3 0 5.01ns\n", env={"BACKSIM": program})
+    assert done.stderr.decode() == f"standard input:1: {beyond}standard input:2: 5.01ns is 501 units of 10 ps, after the horizon, 500\n"
+    assert done.stdout == b"y[1:0] is never 11 (3) from 0 on and before 501\n"
     with pytest.raises(FormatError, match="its unit of time is 1 ns"):
         Session(files[0], files[1], write("other", "# unit 1 ns\nhorizon 5\n"))
     with pytest.raises(UsageError, match="is not known"), Session(files[0], write("bare", ""), write("also", "horizon 5\n")) as session:
@@ -181,9 +190,9 @@ def test_times_of_commands_are_said_in_seconds(write, program, tools, tmp_path, 
     both = [tools("faults", netlist, timing, patterns, "--period", period, "--times", *times, env={"BACKSIM": program})
             for period, times in (("1ns", ["0.5ns:1.5ns:1000ps"]), (100, ["50", "150"]))]
     assert both[0].stdout == both[1].stdout and both[0].returncode == both[1].returncode == 0
-    for option, cause in ((["--period", "0ns"], "--period 0ns is 0 units"), (["--period", "1ns", "--times", "3ns"], "the time 300 is after the horizon, 199"),
+    for option, cause in ((["--period", "0ns"], "--period 0ns is 0 units"), (["--period", "1ns", "--times", "3ns"], "--times 3ns: the time 300 is after the horizon, 199"),
                           (["--period", "1ns", "--times", "1ps"], "--times: 1ps is between two units of 10 ps")):
         done = tools("faults", netlist, timing, patterns, *option, env={"BACKSIM": program})
         assert done.returncode == 2 and cause in done.stderr.decode(), done.stderr
     done = tools("view", netlist, timing, tmp_path / "s", "--from", "1ns", "--to", "3ns", "--no-browser", env={"BACKSIM": program})
-    assert done.returncode == 2 and b"a window from 100 to 300 is none; times are from 0 to 249" in done.stderr
+    assert done.returncode == 2 and b"3ns is 300 units of 10 ps, after the horizon, 249" in done.stderr

@@ -6,7 +6,8 @@ from pathlib import Path
 
 from ..command_line.arguments import moment, unit_of_session
 from ..errors import WordsError
-from ..formats.units import Unit, units_of
+from ..formats.stimulus import read_horizon
+from ..formats.units import Unit, units_of, units_until
 from ..formats.vcd import Selection, read_vcd
 from ..pictures.figures import FORMS
 from ..pictures.files import form_of, write_picture
@@ -52,7 +53,8 @@ def run(arguments: argparse.Namespace) -> int:
         raise WordsError("--scope goes with --vcd")
     names = arguments.words
     unit = _unit_of(arguments, names)
-    start, stop, *marks = (time if time is None else units_of(time, unit) for time in (arguments.start, arguments.stop, *arguments.mark))
+    start, stop = _window(arguments, names, unit)
+    marks = [units_of(mark, unit) for mark in arguments.mark]
     if arguments.replies:
         rows = chosen(rows_of_replies(arguments.replies), names, arguments.replies)
     elif arguments.vcd:
@@ -63,10 +65,19 @@ def run(arguments: argparse.Namespace) -> int:
         rows = rows_of_session(names[:3], names[3:], start, stop, arguments.budget)
     if not arguments.bits:
         rows = with_buses(rows)
-    picture = waves_picture(rows, form, start=start, stop=stop, radix=arguments.radix, marks=[mark for mark in marks if mark is not None],
-                            title=arguments.title, unit=str(unit) if unit else "")
+    picture = waves_picture(rows, form, start=start, stop=stop, radix=arguments.radix, marks=marks, title=arguments.title,
+                            unit=str(unit) if unit else "")
     write_picture(arguments.output, picture)
     return 0
+
+
+def _window(arguments: argparse.Namespace, names: list[str], unit: Unit | None) -> list[int | None]:
+    """What --from and --to say, in units. UsageError where they are in seconds and after the horizon of a session's stimulus."""
+    times = arguments.start, arguments.stop
+    if arguments.replies or arguments.vcd or len(names) < 4:
+        return [time if time is None else units_of(time, unit) for time in times]
+    horizon = read_horizon(names[2])
+    return [time if time is None else units_until(time, unit, horizon, beyond=beyond) for beyond, time in enumerate(times)]
 
 
 def _unit_of(arguments: argparse.Namespace, names: list[str]) -> Unit | None:

@@ -16,7 +16,7 @@ from types import FrameType
 from ..command_line.arguments import add_memo, add_program, count_of, moment, unit_of_session
 from ..errors import UsageError, WordsError, reason_of
 from ..formats.text import read_bytes
-from ..formats.units import units_of
+from ..formats.units import units_until
 from ..limits import MOST_SHARDS
 from ..view.asker import Asker, Opening
 from ..view.documents import Document, begun, read_document
@@ -101,8 +101,8 @@ def _pages(arguments: argparse.Namespace, files: tuple[str, str, str], document:
 def _document(arguments: argparse.Namespace, index: Index, horizon: int) -> Document:
     """The view that the words ask for."""
     unit = unit_of_session(arguments.words[1], arguments.words[2])
-    start = units_of(arguments.start or 0, unit)
-    stop = min(horizon + 1, start + _usual_length(arguments.words[1])) if arguments.stop is None else units_of(arguments.stop, unit)
+    start = units_until(arguments.start or 0, unit, horizon)
+    stop = min(horizon + 1, start + _usual_length(arguments.words[1])) if arguments.stop is None else units_until(arguments.stop, unit, horizon, beyond=1)
     if not 0 <= start < stop <= horizon + 1:
         raise UsageError(f"{arguments.words[2]}: a window from {start} to {stop} is none; times are from 0 to {horizon}")
     names = arguments.words[3:]

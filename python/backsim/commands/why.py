@@ -18,7 +18,7 @@ from ..explanations.explanation import Explanation
 from ..explanations.names import listed
 from ..explanations.sentences import USUAL_CHAINS, summary_of, text_of
 from ..formats.replies import Reply, read_replies_of
-from ..formats.units import units_of
+from ..formats.units import units_of, units_until
 from ..limits import MOST_BUDGET
 from ..pictures.files import form_of, write_picture
 from ..pictures.graph import FORMS, picture_of, rendered, steps_text
@@ -101,11 +101,10 @@ def _picture(explanation: Explanation, form: str, arguments: argparse.Namespace)
 
 def _explanation_of(arguments: argparse.Namespace) -> Explanation:
     """The explanation that is in the file, or that a session gives."""
-    if isinstance(arguments.time, str):
-        arguments.time = units_of(arguments.time, unit_of_session(arguments.timing, arguments.stimulus))
     if arguments.proof:
         design = read_design(arguments.netlist, arguments.timing, arguments.stimulus)
-        reply = _chosen(arguments.proof, arguments.name, arguments.time)
+        time = None if arguments.time is None else units_of(arguments.time, unit_of_session(arguments.timing, arguments.stimulus))
+        reply = _chosen(arguments.proof, arguments.name, time)
         assert isinstance(reply.answer, Proof)
         explain(design, reply.answer, arguments.proof, reply.line)
         until = _signals(arguments.until, arguments.netlist, design.netlist.names)
@@ -117,11 +116,11 @@ def _explanation_of(arguments: argparse.Namespace) -> Explanation:
         design = session.design
         until = _signals(arguments.until, arguments.netlist, design.netlist.names)
         name = full_name(arguments.name, set(design.netlist.names))
-        answer = session.explain(name, arguments.time, arguments.budget, until=until, depth=arguments.depth,
-                                 has_all=arguments.all)
+        time = units_until(arguments.time, session.unit, session.horizon)
+        answer = session.explain(name, time, arguments.budget, until=until, depth=arguments.depth, has_all=arguments.all)
     if isinstance(answer, Explanation):
         return answer
-    raise no_value_of(answer, arguments.netlist, arguments.stimulus, f"{answer.name} at {arguments.time}", f", {design.stimulus.horizon}")
+    raise no_value_of(answer, arguments.netlist, arguments.stimulus, f"{answer.name} at {time}", f", {design.stimulus.horizon}")
 
 
 def _signals(names: Sequence[str], path: Path, known: Sequence[str]) -> list[str]:

@@ -109,7 +109,7 @@ def read_dump(path: type_of_path, scope: str, span: Span = Span(), names: Iterab
         scale = span.scale(vcd)
         start, stop = span.units(scale.unit)
         if stop is not None and stop < start:
-            raise FormatError(path, None, f"the window ends at {stop}, before its beginning at {start}")
+            raise FormatError(path, None, f"the window ends at {span.stop}, before its beginning at {span.start}")
         vcd.in_scope(scope)
         return Selection(None if wanted is None else vcd.codes(scope, wanted), scale.tick_at(start), None if stop is None else scale.tick_from(stop))
 

@@ -138,15 +138,13 @@ def usual_times(count: int, period: int, first: int) -> list[int]:
 
 
 def _times_of(arguments: argparse.Namespace, circuit: Circuit, usual: Sequence[int]) -> tuple[int, ...]:
-    times = sorted({time for word in arguments.times for time in _times_in(word, circuit.timing.unit)}) or list(usual)
-    if not times:
+    times = {time for word in arguments.times for time in _times_in(word, circuit.timing.unit, circuit.stimulus.horizon)}
+    if not times and not usual:
         raise WordsError("with a stimulus --times are wanted, when the tester looks, as 9 19 29 or 9:99:10")
-    if times[-1] > circuit.stimulus.horizon:
-        raise WordsError(f"the time {times[-1]} is after the horizon, {circuit.stimulus.horizon}")
-    return tuple(times)
+    return tuple(sorted(times or usual))
 
 
-def _times_in(word: str, unit: Unit | None) -> range:
+def _times_in(word: str, unit: Unit | None, horizon: int) -> range:
     parts = word.split(":")
     if len(parts) not in (1, 3) or not all(is_time(part) or part.isascii() and part.isdigit() and len(part) < 8 for part in parts):
         raise WordsError(f"`{word}` is neither a time nor FROM:TO:STEP")
@@ -154,7 +152,10 @@ def _times_in(word: str, unit: Unit | None) -> range:
     first, last, step = times if len(times) == 3 else (times[0], times[0], 1)
     if step == 0 or last < first:
         raise WordsError(f"`{word}` has no time")
-    return range(first, last + 1, step)
+    found = range(first, last + 1, step)
+    if found[-1] > horizon:
+        raise WordsError(f"--times {word}: the time {found[-1]} is after the horizon, {horizon}")
+    return found
 
 
 def classes_of(arguments: argparse.Namespace, lines: Lines, is_transition: bool = False) -> list[FaultClass]:

@@ -144,3 +144,12 @@ def units_of(time: Moment, unit: Unit | None) -> int:
     if units.denominator != 1:
         raise UsageError(f"{time} is between two units of {unit}")
     return int(units)
+
+
+def units_until(time: Moment, unit: Unit | None, last: int, what: str = "the horizon", beyond: int = 0) -> int:
+    """A time in units, as of `units_of`. UsageError, in the words of the user, also where a text like `15ns` is after the time `last`, which
+    is `what`, by more than `beyond`; who asks for a number tells of that."""
+    units = units_of(time, unit)
+    if isinstance(time, str) and units > last + beyond:
+        raise UsageError(f"{time} is {units:,} units of {unit}, after {what}, {last:,}")
+    return units

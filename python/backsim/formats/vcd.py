@@ -17,6 +17,7 @@ from ..errors import FormatError, type_of_path
 from ..records import dataclass
 from ..values import AFTER_VALUES
 from .dump_files import BLOCK, opened_dump
+from .units import Unit
 
 Changes = tuple[tuple[int, str], ...]
 TIMESCALE = re.compile(r"(1|10|100)\s*(s|ms|us|ns|ps|fs)")
@@ -215,7 +216,8 @@ class _Reader:
                 self.vcd._changes = {code: changes for code, changes in self.vcd._changes.items() if code in selection.codes}
         self.blocks(stream, rest, progress)
         if not self.has_ended and self.now < self.start:
-            raise FormatError(self.vcd.path, None, f"the dump ends at {self.now} ticks, before {self.start}, where the window begins")
+            tick = Unit(self.vcd.ticks, self.vcd.unit)
+            raise FormatError(self.vcd.path, None, f"the dump ends at {tick.times(self.now)}, before {tick.times(self.start)}, where the window begins")
         if self.vcd.variables and not (self.has_value if self.select else any(self.vcd._changes.values())):
             raise self.fault("the dump is cut after its header: it has no value")
         return self.vcd

@@ -45,9 +45,9 @@ class Answers:
     def _horizon(self) -> int:
         return self.session.horizon
 
-    def time(self, word: str) -> int:
+    def time(self, word: str, beyond: int = 0) -> int:
         """The time that a word is. UsageError where it is none."""
-        return time_in(word, self._horizon, self.unit)
+        return time_in(word, self._horizon, self.unit, beyond)
 
     def named(self, name: str) -> list[str]:
         """The signals and buses that a name stands for; a pattern without `$` stands for none that a converter added, and for bits as
@@ -98,5 +98,5 @@ class Answers:
         """The first time of the window that two words say, and the one after its last; without words all times."""
         if not times:
             return 0, self._horizon + 1
-        start, stop = map(self.time, times)
+        start, stop = self.time(times[0]), self.time(times[1], 1)
         return start, stop + (times[1] == "end")

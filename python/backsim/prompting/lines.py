@@ -10,7 +10,7 @@ from ..errors import UsageError
 from ..explanations.names import in_short
 from ..explanations.sentences import text_of, word_text
 from ..formats.text import number_of
-from ..formats.units import Unit, units_of
+from ..formats.units import Unit, units_until
 from ..limits import MOST_ASKED_TIME
 from ..records import dataclass
 from ..values import At, First, Stuck, Unknown, Wave
@@ -68,13 +68,14 @@ def asked_by(line: str) -> Asked | None:
     return Asked("exit" if verb == "quit" else verb, rest)
 
 
-def time_in(word: str, horizon: int, unit: Unit | None = None) -> int:
-    """The time that a word is; `end` is the horizon, and `15ns` so many units. UsageError where it is none."""
+def time_in(word: str, horizon: int, unit: Unit | None = None, beyond: int = 0) -> int:
+    """The time that a word is; `end` is the horizon, and `15ns` so many units. UsageError where it is none, or is in seconds and after the
+    horizon by more than `beyond`."""
     if word == "end":
         return horizon
     number = number_of(word.replace(",", ""))
     if number is None and word[:1].isdigit():
-        number = units_of(word, unit)
+        number = units_until(word, unit, horizon, beyond=beyond)
     if number is None or number > MOST_ASKED_TIME:
         raise UsageError(f"{word} is no time: a whole number from 0 to {MOST_ASKED_TIME:,} is wanted, or `end`")
     return number

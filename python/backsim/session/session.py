@@ -22,8 +22,8 @@ from ..formats.replies import Reply
 from ..formats.script import Line, WhyLine
 from ..formats.stimulus import Stimulus, read_horizon, read_stimulus, write_stimulus
 from ..formats.timing import Timing, read_timing, write_timing
-from ..formats.units import Moment, check_units, unit_of_file, units_of
-from ..limits import MOST_BUDGET, MOST_CELLS
+from ..formats.units import Moment, check_units, unit_of_file, units_until
+from ..limits import MOST_ASKED_TIME, MOST_BUDGET, MOST_CELLS
 from ..values import Answer, Budget, Past, Proof, Unknown
 from .batch import Batch
 from .checks import whole_number
@@ -154,7 +154,7 @@ class Session(SessionQuestions):
 
     def time(self, time: Moment) -> int:
         """A time in units: a number as it is, a text such as `15ns` by the unit that the files state, which is `unit`."""
-        return units_of(time, self.unit) if isinstance(time, str) else time
+        return units_until(time, self.unit, MOST_ASKED_TIME, "the greatest time") if isinstance(time, str) else time
 
     def bits(self, name: str) -> tuple[str, ...]:
         """The names of the bits that a name stands for: those of a bus, the leftmost first, or the name alone."""
