@@ -148,7 +148,8 @@ def test_patterns_of_an_interrupted_search_are_kept_and_marked(number, tools, tm
 
 
 @pytest.mark.parametrize("words, cause", [
-    (["patterns", *S27], "with flip-flops --period P is wanted"), (["patterns", *C17, "--coverage", "101"], "from 1 to 100"),
+    (["patterns", *S27], "with flip-flops --period P is wanted"), (["patterns", *C17, "--first", "5"], "c17.bench: without flip-flops patterns have no times"),
+    (["patterns", *C17, "--period", "5"], "so --period and --first would do nothing"), (["patterns", *C17, "--coverage", "101"], "from 1 to 100"),
     (["compact", *S27, "s27.p", "--period", "20"], "the circuit has flip-flops"),
     (["compact", *C17, "c17.p", "--period", "10", "--times", "9"], "backsim-tools compact: patterns and the usual looks are wanted"),
     (["compact", *C17, "c17.p"], "backsim-tools compact: patterns want --period P, "),

@@ -300,6 +300,8 @@ def test_a_click_on_a_value_walks_to_its_cause(small) -> None:
     steps = small.value("[...document.querySelectorAll('#chain button b')].map((step) => step.textContent)")
     assert steps[:3] == ["G17 = x", "G11 = x", "G9 = x"]
     assert steps[-1] in ("G8 = x", "G12 = x")
+    # docs/use/GUIDE.md: with the value's own step the chain has five
+    assert small.text("#why-state") == f"5 steps back to {steps[-1].removesuffix(' = x')}" and len(steps) == 5
     assert "2 signals had no time to get a value" in small.text("#causes") and small.value("document.getElementById('roots').options.length") == 2
     # its signals are in the waves now, and the way is drawn
     small.settle()

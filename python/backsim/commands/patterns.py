@@ -55,6 +55,8 @@ def run(arguments: argparse.Namespace) -> int:
         raise UsageError(f"{arguments.netlist}: the netlist has no OUTPUT, so nothing shows a fault")
     if netlist.flops() and arguments.period is None:
         raise UsageError(f"{arguments.netlist}: with flip-flops --period P is wanted, the time from one pattern to the next")
+    if not netlist.flops() and (arguments.period is not None or arguments.first):
+        raise UsageError(f"{arguments.netlist}: without flip-flops patterns have no times, so --period and --first would do nothing")
     classes = stuck_classes_of(arguments, Lines(netlist))
     inputs = tuple(name for name in netlist.inputs if constant_value(name) is None)
     if not inputs:

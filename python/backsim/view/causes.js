@@ -94,7 +94,7 @@ export class Causes {
     }
     part["why-head"].textContent = `Why ${told.name} is ${told.value} at ${grouped(told.time)}`;
     part["why-head"].title = part["why-head"].textContent;
-    part["why-state"].textContent = steps.length ? `${grouped(steps.length - 1)} step${steps.length === 2 ? "" : "s"} back to ${told.chains[this.#root].to}` : "";
+    part["why-state"].textContent = steps.length ? `${grouped(steps.length)} step${steps.length === 1 ? "" : "s"} back to ${told.chains[this.#root].to}` : "";
     const more = told.causes.length - MOST_CAUSES, shown = more > 1 ? told.causes.slice(0, MOST_CAUSES) : told.causes;
     part.causes.replaceChildren(...shown.map((cause) => make("li", {}, cause)), ...(more > 1 ? [make("li", {title: told.causes.slice(MOST_CAUSES).join("\n")}, `and ${grouped(more)} more`)] : []));
     part.roots.replaceChildren(...told.chains.map((one, place) => make("option", {value: String(place), selected: place === this.#root}, `${one.to}: ${one.kind}`)));
