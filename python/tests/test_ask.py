@@ -72,8 +72,11 @@ def test_forms_of_lines() -> None:
 
 def test_names_are_completed() -> None:
     names = Names(["count[1]", "count[0]", "counter", "u1.a", "u1.b", "wave"])
-    assert completed(names, "co", 0, "co") == ["count[", "counter"] and completed(names, "why count[", 4, "count[") == ["count[0]", "count[1]"]
+    assert completed(names, "co", 0, "co") == ["count[1:0]", "counter"] and completed(names, "why count[", 4, "count[") == ["count[0]", "count[1]"]
     assert completed(names, "wa", 0, "wa") == ["wave ", "wave"] and completed(names, "at u", 3, "u") == ["u1.a", "u1.b"]
+    # whole names, each bus as it was declared, also of a memory, and of a bus that lacks bits the ranges that are there
+    buses = Names([*(f"{bus}[{bit}]" for bus in ("sum", "key", "m[0]", "m[1]") for bit in range(12)), "gap[0]", "gap[2]", "one[3]"], {"key": "key[0:11]"})
+    assert completed(buses, "at ", 3, "") == ["gap[2]", "gap[0]", "key[0:11]", "m[0][11:0]", "m[1][11:0]", "one[3]", "sum[11:0]"]
     many = Names([f"u{place}.x{bit}" for place in range(30) for bit in range(30)])
     assert completed(many, "at u", 3, "u") == sorted(f"u{place}." for place in range(30))
 
@@ -119,7 +122,7 @@ def test_a_terminal(terminal, tmp_path) -> None:
     for _ in range(20):
         assert "valid = 1" not in typed("valid 7999\x03", "\n") + typed("valid 4\n", "valid = ")
     # Tab, the line before by the arrow key, and a line that has no answer
-    assert "watch.meter[0] = 0" in typed("at watch.m\t0] 551\n", "watch.meter[0] = ")
+    assert "watch.meter[0] = 0" in typed("at watch.meter[0\t 551\n", "watch.meter[0] = ")
     assert "watch.meter[0] = 0" in typed("\x10\n", "watch.meter[0] = ")
     assert "there is no signal G98" in typed("G98 1\n", "no signal G98")
     typed("\x04", "\n")

@@ -51,16 +51,18 @@ def written_number(text: str) -> int | None:
         return None
 
 
-def full_name(name: str, names: Collection[str]) -> str:
+def full_name(name: str, names: Collection[str], ascending: Collection[str] = ()) -> str:
     """The name with its range where it is that of a bus of which `names`, those of a netlist or of a file, has all bits and whose range
-    was left out: `count[7:0]` for `count`. Any other name stays. The leftmost bit is the highest one. A look at each of `names`.
+    was left out: `count[7:0]` for `count`. Any other name stays. The leftmost bit is the highest one, and of a bus that is `ascending` the
+    lowest. A look at each of `names`.
     UsageError where bits between the highest and the lowest are missing, or there are more than 4,096."""
     if name in names or name.endswith("]") and bits_of(name):
         return name
     places = _places(name, names)
     if not places:
         return name
-    full = f"{name}[{max(places)}:{min(places)}]"
+    left, right = (min(places), max(places)) if name in ascending else (max(places), min(places))
+    full = f"{name}[{left}:{right}]"
     missing = [bit for bit in bits_of(full) if bit not in names]
     if missing:
         raise UsageError(f"the bus {full} has no bit {missing[0]}: name its bits, or a range that has all")

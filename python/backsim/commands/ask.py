@@ -118,9 +118,10 @@ class _Prompt:
         self._session = self._begun()
         return self._answers()
 
-    def names(self) -> Iterator[str]:
+    def names(self) -> Names:
         """The names of the netlist."""
-        yield from self._session.netlist.names
+        netlist = self._session.netlist
+        return Names(netlist.names, netlist.ascending)
 
 
 class _Line:
@@ -168,7 +169,7 @@ class _Line:
 
     def _read_names(self) -> None:
         try:
-            self._names = Names(self._prompt.names())
+            self._names = self._prompt.names()
         except BacksimError:
             pass
 

@@ -115,7 +115,7 @@ def _explanation_of(arguments: argparse.Namespace) -> Explanation:
     with Session(arguments.netlist, arguments.timing, arguments.stimulus) as session:
         design = session.design
         until = _signals(arguments.until, arguments.netlist, design.netlist.names)
-        name = full_name(arguments.name, set(design.netlist.names))
+        name = full_name(arguments.name, set(design.netlist.names), design.netlist.ascending)
         time = units_until(arguments.time, session.unit, session.horizon)
         answer = session.explain(name, time, arguments.budget, until=until, depth=arguments.depth, has_all=arguments.all)
     if isinstance(answer, Explanation):

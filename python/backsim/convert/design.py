@@ -1,7 +1,7 @@
 """A netlist and its clocks from a module of Yosys, with the names of its nets."""
 from __future__ import annotations
 
-from dataclasses import field
+from dataclasses import field, replace
 
 from ..circuit.kinds import Kind
 from ..errors import FormatError
@@ -91,9 +91,15 @@ class _Maker:
         for kind, ports in self.templates.unused.items():
             self.design.notes.append(f"nothing in {kind} depends on {', '.join(ports)}: where that enables a tri-state output, Yosys's read_liberty "
                                      "leaves it out, and the cell is taken as one that always drives")
-        self.design.netlist = self.builder.netlist()
+        self.design.netlist = self._with_ascending(self.builder.netlist())
         self._add_sources()
         return self.design
+
+    def _with_ascending(self, netlist: Netlist) -> Netlist:
+        """The netlist with those of its buses that were declared with the lowest bit leftmost."""
+        nets = [net for net in self.module.nets if net.is_upward and net.is_public and len(net.bits) > 1]
+        return replace(netlist, ascending={net.name: f"{net.name}[{net.offset}:{net.offset + len(net.bits) - 1}]"
+                                           for net in nets if any(name in netlist for name in net.names())})
 
     def _drivers(self) -> dict[Bit, Cell | None]:
         """What drives each bit: a cell, or None for an input."""

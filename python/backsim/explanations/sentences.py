@@ -40,7 +40,7 @@ def summary_of(explanation: Explanation) -> list[str]:
             lines.append(f"   {alone}")
     if len(causes) > MOST_CAUSES:
         rest = causes[MOST_CAUSES:]
-        lines.append(f"   and {len(rest):,} more causes: {in_short([name for each in rest for cause in each for name in cause.names])}")
+        lines.append(f"   and {len(rest):,} more causes: {_short(explanation, [name for each in rest for cause in each for name in cause.names])}")
     return lines
 
 
@@ -84,7 +84,7 @@ def _others(explanation: Explanation) -> Iterator[str]:
     graph = explanation.graph
     way = {node.name for node in graph.way().nodes}
     others = [node.name for node in graph.nodes if node.name not in way]
-    yield f"Looked at as well, {_counted(len(set(others)), 'signal')}: {in_short(others, 40)}" if others else "Nothing else was looked at."
+    yield f"Looked at as well, {_counted(len(set(others)), 'signal')}: {_short(explanation, others, 40)}" if others else "Nothing else was looked at."
 
 
 def first_few(causes: Sequence[Cause], most: int) -> list[tuple[Cause, str]]:
@@ -138,7 +138,7 @@ def _row(step: Step) -> tuple[str, str, str, str]:
 
 def sentence_of(explanation: Explanation, cause: Cause) -> str:
     """What a root cause is, without the value that comes of it."""
-    count, names = len(cause.names), in_short(cause.names)
+    count, names = len(cause.names), _short(explanation, cause.names)
     first = cause.names[0]
     start, end = cause.times[0]
     if cause.kind is CauseKind.UNSET:
@@ -152,11 +152,11 @@ def sentence_of(explanation: Explanation, cause: Cause) -> str:
     elif cause.kind is CauseKind.INPUT:
         return _set_inputs(explanation, cause)
     elif cause.kind is CauseKind.INITIAL:
-        return f"initial value of {valued(cause)}" if count == 1 else f"initial values of {count:,} flip-flops: {valued(cause)}"
+        return f"initial value of {_valued(explanation, cause)}" if count == 1 else f"initial values of {count:,} flip-flops: {_valued(explanation, cause)}"
     elif cause.kind is CauseKind.CONSTANT:
         return f"constant {names}"
     elif cause.kind is CauseKind.UNTIL:
-        return f"the way ends at {valued(cause)}, {'since' if count == 1 else 'the nearest since'} {start:,}"
+        return f"the way ends at {_valued(explanation, cause)}, {'since' if count == 1 else 'the nearest since'} {start:,}"
     elif cause.kind is CauseKind.BEYOND:
         return f"{_counted(count, 'signal')} not followed further: {names}"
 
@@ -165,7 +165,7 @@ def _set_inputs(explanation: Explanation, cause: Cause) -> str:
     """What is said of inputs that were set at one time."""
     first, at = cause.names[0], f"{cause.times[0][0]:,}"
     if len(cause.names) > 1:
-        return f"{len(cause.names):,} inputs set at {at}: {valued(cause)}"
+        return f"{len(cause.names):,} inputs set at {at}: {_valued(explanation, cause)}"
     pin = _deciding_pin(explanation)
     if pin is not None and len(explanation.causes) == 1:
         return f"input {first} decides, set to {cause.values[0]} at {at}" if pin == first else \
@@ -175,7 +175,7 @@ def _set_inputs(explanation: Explanation, cause: Cause) -> str:
 
 def _without_value(explanation: Explanation, cause: Cause) -> str:
     """What is said of inputs without a known value."""
-    count, names = len(cause.names), in_short(cause.names)
+    count, names = len(cause.names), _short(explanation, cause.names)
     start, end = cause.times[0]
     inputs = f"input {names}" if count == 1 else f"{count:,} inputs"
     listed = "" if count == 1 else f": {names}"
@@ -190,18 +190,24 @@ def alone_sentence(explanation: Explanation, cause: Cause) -> str:
     """What is said of the signals that decide alone; an empty text where there is none or nothing to say."""
     if not cause.alone or len(explanation.causes) == 1 and len(cause.names) == 1:
         return ""
-    names = in_short(cause.alone)
+    names = _short(explanation, cause.alone)
     each = "it alone decides" if len(cause.alone) == len(cause.names) == 1 else \
         f"{names} alone decides" if len(cause.alone) == 1 else f"each of {names} alone decides"
     what = _MENDED.get(cause.kind)
     return f"{each}: {what}, {explanation.name} would be known" if what else each
 
 
-def valued(cause: Cause) -> str:
+def _valued(explanation: Explanation, cause: Cause) -> str:
     """The signals of a cause with their values, bits of a bus as a word."""
     values = dict(zip(cause.names, cause.values))
-    shown = [(name, "".join(values[bit] for bit in bits_of(name) or (name,))) for name in compact(cause.names, buses_alone=True)]
+    shown = [(name, "".join(values[bit] for bit in bits_of(name) or (name,))) 
+             for name in compact(cause.names, True, explanation.design.netlist.ascending)]
     return listed([f"{name} = {word_text(word)}" for name, word in shown])
+
+
+def _short(explanation: Explanation, names: Sequence[str], most: int = 8) -> str:
+    """The names in few letters, and buses as they were declared."""
+    return in_short(names, most, explanation.design.netlist.ascending)
 
 
 def word_text(word: str) -> str:

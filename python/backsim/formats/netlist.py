@@ -23,6 +23,8 @@ _GATE = re.compile(rb"%b(%b)%b=%b([A-Za-z]+)%b\(%b(%b(?:%b,%b%b)*)%b\)%b(?:#.*)?
     _BLANKS, _NAME, _BLANKS, _BLANKS, _BLANKS, _BLANKS, _NAME, _BLANKS, _BLANKS, _NAME, _BLANKS, _BLANKS))
 # a comment that is a place in the source, as `# chip.v:12` or `# chip.v:12.5-14.8`
 _SOURCE = re.compile(rb"#[ \t]*([!-~]+:[0-9]+(?:\.[0-9]+(?:-[0-9]+\.[0-9]+)?)?)[ \t\r]*")
+# a comment that says how a bus was declared of which the leftmost bit has the lowest number, as `# bus key[0:7]`
+_ASCENDING = re.compile(rb"%b#%bbus[ \t]+((%b)\[[0-9]{1,6}:[0-9]{1,6}\])%b" % (_BLANKS, _BLANKS, _NAME, _BLANKS))
 
 
 @dataclass(frozen=True, slots=True)
@@ -41,12 +43,14 @@ class Gate:
 @dataclass(frozen=True, slots=True)
 class Netlist:
     """Inputs and outputs in order, each once, the gates by their names, and all names in the order of the signals' numbers, which
-    is that in which they first appear in the file."""
+    is that in which they first appear in the file. `ascending` has, by their names without range, the buses that were declared with the
+    lowest bit leftmost, as `key[0:7]`."""
 
     inputs: tuple[str, ...]
     outputs: tuple[str, ...]
     gates: Mapping[str, Gate]
     names: tuple[str, ...]
+    ascending: Mapping[str, str] = field(default_factory=dict, compare=False)
     _numbers: dict[str, int] = field(init=False, repr=False, compare=False)
 
     def __post_init__(self) -> None:
@@ -115,11 +119,25 @@ def parse_netlist(data: bytes, path: str) -> Netlist:
 
 
 def write_netlist(netlist: Netlist, stream: TextIO) -> None:
-    """Writes the INPUT lines, the OUTPUT lines, and a line for each gate, in order, with its place in the source as a comment."""
+    """Writes comments that say which buses ascend, the INPUT lines, the OUTPUT lines, and a line for each gate, in order, with its place
+    in the source as a comment."""
+    stream.writelines(f"# bus {bus}\n" for bus in netlist.ascending.values())
     stream.writelines(f"INPUT({name})\n" for name in netlist.inputs)
     stream.writelines(f"OUTPUT({name})\n" for name in netlist.outputs)
     stream.writelines(f"{gate.name} = {gate.kind.value}({', '.join(gate.pins)}){f'  # {gate.source}' if gate.source else ''}\n"
                       for gate in netlist.gates.values())
+
+
+def ascending_in(data: bytes) -> dict[str, str]:
+    """The buses that comments above the first line of a netlist that isn't blank say to ascend, by their names without range."""
+    found: dict[str, str] = {}
+    for line in lines_of(data):
+        parts = _ASCENDING.fullmatch(line)
+        if parts is not None:
+            found[parts[2].decode("ascii")] = parts[1].decode("ascii")
+        elif content_of(line).strip(" "):
+            break
+    return found
 
 
 def source_of(line: bytes) -> str:
@@ -167,7 +185,7 @@ class _Parser:
         for name, number in self.used.items():
             if name not in self.gates and name not in self.inputs:
                 raise self.fault(number, 5, name)
-        return Netlist(tuple(self.inputs), tuple(self.outputs), self.gates, tuple(self.names))
+        return Netlist(tuple(self.inputs), tuple(self.outputs), self.gates, tuple(self.names), ascending_in(data))
 
     def usual_gate(self, number: int, line: bytes) -> Gate | None:
         """The gate of a line, where it is seen at once that nothing is wrong with it; else None."""

@@ -1,7 +1,7 @@
 """Where the rows of a timing diagram come from: replies, a dump, or a session."""
 from __future__ import annotations
 
-from collections.abc import Mapping, Sequence
+from collections.abc import Collection, Mapping, Sequence
 from pathlib import Path
 
 from ..circuit.buses import bits_of, full_name, matching
@@ -120,20 +120,20 @@ def rows_of_session(files: Sequence[str], names: Sequence[str], start: int | Non
 
 def _without_patterns(path: str, names: Sequence[str]) -> list[str]:
     """The names, each once, with the signals that are of a pattern in its place, and the range of a bus that is named without it."""
-    known = read_netlist(path).names
-    signals = set(known)
+    netlist = read_netlist(path)
+    known, signals = netlist.names, set(netlist.names)
     found: list[str] = []
     for name in names:
-        labels = matching(name, known) if set(name) & _WILD and name not in signals else (_bus_of(path, name, signals),)
+        labels = matching(name, known) if set(name) & _WILD and name not in signals else (_bus_of(path, name, signals, netlist.ascending),)
         if not labels:
             raise UsageError(f"{path}: no signal is of the pattern {name}")
         found += labels
     return list(dict.fromkeys(found))
 
 
-def _bus_of(path: str, name: str, signals: set[str]) -> str:
+def _bus_of(path: str, name: str, signals: set[str], ascending: Collection[str]) -> str:
     """The name, with its range where it is that of a bus. UsageError, of the netlist's file, where bits of the bus are missing."""
     try:
-        return full_name(name, signals)
+        return full_name(name, signals, ascending)
     except UsageError as error:
         raise UsageError(f"{path}: {error}") from None

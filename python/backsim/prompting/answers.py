@@ -56,8 +56,8 @@ class Answers:
         if not is_wild and self._is_signal(name) or name in self.session.netlist:
             return [name]
         if not is_wild:
-            return [full_name(name, self._known)]
-        found = compact([own for own in self.session.names(name) if "$" in name or "$" not in own], buses_alone=True)
+            return [full_name(name, self._known, self.session.netlist.ascending)]
+        found = compact([own for own in self.session.names(name) if "$" in name or "$" not in own], True, self.session.netlist.ascending)
         if not found:
             raise UsageError(f"no signal is of the pattern {name}")
         if len(found) > MOST_SIGNALS:

@@ -1,9 +1,11 @@
-"""Completes a word of a line: a verb, or a name, of which the bits of a bus are shown as one until its bracket is written."""
+"""Completes a word of a line: a verb, or a name, a bus as `count[7:0]` until its bracket is written."""
 from __future__ import annotations
 
+import re
 from bisect import bisect_left
-from collections.abc import Iterable, Iterator
+from collections.abc import Collection, Iterable, Iterator
 
+from ..explanations.names import compact
 from .lines import VERBS
 
 MOST_SHOWN = 500
@@ -12,18 +14,18 @@ MOST_SHOWN = 500
 class Names:
     """The names of a netlist in the order of their letters."""
 
-    def __init__(self, names: Iterable[str]) -> None:
-        self._names = sorted(names)
+    def __init__(self, names: Iterable[str], ascending: Collection[str] = ()) -> None:
+        self._names, self._ascending = sorted(names), ascending
 
     def beginning(self, text: str) -> list[str]:
-        """What a name that begins with the text may go on to: whole names, a bus without its bits, or an instance up to its dot where
-        there are many. At most 500."""
-        found: dict[str, None] = {}
+        """What a name that begins with the text may go on to: whole names, the bits of a bus as one, or where there are many an instance up
+        to its dot and a bus up to its bracket. At most 500."""
+        found: dict[str, list[str]] = {}
         for name in self._from(text):
-            found[_shortest(name, text)] = None
+            found.setdefault(_whole(name, text), []).append(name)
             if len(found) > MOST_SHOWN:
                 return list(dict.fromkeys(_instance(name, text) for name in self._from(text)))[:MOST_SHOWN]
-        return list(found)
+        return [one for bits in found.values() for one in compact(bits, True, self._ascending)]
 
     def _from(self, text: str) -> Iterator[str]:
         for place in range(bisect_left(self._names, text), len(self._names)):
@@ -32,15 +34,15 @@ class Names:
             yield self._names[place]
 
 
-def _shortest(name: str, text: str) -> str:
-    """The name, of a bit up to its bracket where the text does not have that."""
-    mark = name.find("[", len(text))
-    return name if mark < 0 else name[:mark + 1]
+def _whole(name: str, text: str) -> str:
+    """What the bits of one bus have in common, of which the text does not have the bracket; else the name."""
+    mark = name.rfind("[", len(text))
+    return name if mark < 0 else name[:mark]
 
 
 def _instance(name: str, text: str) -> str:
-    mark = name.find(".", len(text))
-    return _shortest(name, text) if mark < 0 else name[:mark + 1]
+    mark = re.search(r"[.[]", name[len(text):])
+    return name if mark is None else name[:len(text) + mark.end()]
 
 
 def completed(names: Names, line: str, begin: int, text: str) -> list[str]:

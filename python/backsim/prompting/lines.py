@@ -180,19 +180,19 @@ def _signal(own: Answers, name: str) -> Iterator[str]:
     if strange is not None:
         raise no_value_of(Unknown(strange, own.session.nearest(strange)), *own.files, strange)
     if len(names) > 1 or one not in netlist:
-        yield in_short([bit for each in names for bit in own.session.bits(each)], MOST_LINES)
+        yield in_short([bit for each in names for bit in own.session.bits(each)], MOST_LINES, netlist.ascending)
         return
     gate = netlist.gates.get(one)
     drives = f"{one} = {gate.kind.value}({', '.join(gate.pins)})" + (f"  {gate.source}" if gate.source else "") if gate else f"input {one}"
     readers = [other.name for other in netlist.gates.values() if one in other.pins]
     yield drives
-    yield f"{'an output; ' if one in netlist.outputs else ''}read by {in_short(readers, 12) or 'nothing'}"
+    yield f"{'an output; ' if one in netlist.outputs else ''}read by {in_short(readers, 12, netlist.ascending) or 'nothing'}"
 
 
 @_form("names", 0, 1, help="names [PATTERN]              the names of a pattern")
 def _names(own: Answers, pattern: str = "*") -> Iterator[str]:
     found = own.session.names(pattern)
-    yield from in_short(found, MOST_LINES).split(", ") if found else [f"no signal is of the pattern {pattern}"]
+    yield from in_short(found, MOST_LINES, own.session.netlist.ascending).split(", ") if found else [f"no signal is of the pattern {pattern}"]
 
 
 @_form("stats", 0, help="stats, trim CELLS            the counts of the session; evicts all but so many cells of each shard")

@@ -15,7 +15,7 @@ from ..circuit.buses import bits_of, full_name, nearest
 from ..circuit.kinds import kind_of
 from ..convert.build import ONE, ZERO
 from ..errors import UsageError, type_of_path
-from ..formats.netlist import Gate, Netlist, source_of
+from ..formats.netlist import Gate, Netlist, ascending_in, source_of
 from ..formats.text import is_name, read_bytes
 from ..records import dataclass
 
@@ -63,6 +63,7 @@ class Index:
         ports = _PORT.findall(self._data)
         self.inputs = _decoded(name for word, name in ports if word.upper() == b"INPUT")
         self.outputs = _decoded(name for word, name in ports if word.upper() == b"OUTPUT")
+        self._ascending = ascending_in(self._data)
         self._lines: list[tuple[bytes, ...]] = []
         self._kinds: dict[str, str] = {}
         self._sorted: list[str] = []
@@ -151,7 +152,7 @@ class Index:
         if not self._is_read.is_set() and self._is_there(name) or name.endswith("]") and bits_of(name):
             return name
         self._wait()
-        return full_name(name, self._kinds)
+        return full_name(name, self._kinds, self._ascending)
 
     def nearest(self, name: str) -> tuple[str, ...]:
         """At most three signals and buses whose names are like the name."""
@@ -232,7 +233,8 @@ class Index:
                 found.append(Found(stem, self.kind(stem), 1))
                 continue
             for first, last in _ranges(places):
-                name = f"{stem}{last}:{first}]" if last > first else f"{stem}{first}]"
+                left, right = (first, last) if stem[:-1] in self._ascending else (last, first)
+                name = f"{stem}{left}:{right}]" if last > first else f"{stem}{first}]"
                 found.append(Found(name, self.kind(f"{stem}{first}]"), last - first + 1))
         return found
 
@@ -256,7 +258,7 @@ class Index:
                 names.setdefault(pin.strip(b" "))
             gates.lines[gate.decode("latin-1")] = (kind, pins, comment)
         self._lines = []
-        return Netlist(tuple(self.inputs), tuple(self.outputs), gates, _decoded(names))
+        return Netlist(tuple(self.inputs), tuple(self.outputs), gates, _decoded(names), self._ascending)
 
 
 def _take_registers(kinds: dict[str, str], lines: Iterable[tuple[bytes, ...]]) -> None:
