@@ -51,6 +51,18 @@ def test_draw_takes_a_bus_by_its_name(write, tmp_path, program, monkeypatch, cap
     assert capsys.readouterr().err == f"{files[0]}: the bus gap[2:0] has no bit gap[1]: name its bits, or a range that has all\n"
 
 
+def test_a_bus_is_named_as_it_was_declared(write, program, tools) -> None:
+    """key was declared [0:3] and is 1 in bit 3 alone, so 0001 from its leftmost bit on; y sees it one unit later, and word was declared as usual."""
+    names = [f"{bus}[{bit}]" for bus in ("key", "word") for bit in range(4)]
+    files = [write("n", "# bus key[0:3]\n" + "".join(f"INPUT({name})\n" for name in names) + f"OUTPUT(y)\ny = OR({', '.join(names)})\n"), write("t", ""),
+             write("s", "horizon 9\n" + "".join(f"set {name} 2 {int(name == 'key[3]')}\n" for name in names))]
+    said = [tools("why", *files, *words, env={"BACKSIM": program}).stdout.decode() for words in (("key", 5), ("y", 2), ("word", 1))]
+    assert said[0].startswith("key[0:3] is 0001 at 5\n") and "x: 8 inputs have no value before 2: key[0:3], word[3:0]\n" in said[1]
+    assert said[2].startswith("word[3:0] is xxxx at 1\n")
+    done = tools("ask", *files, input=b"key 5\n[kw]* 1\nkey* 5\n", env={"BACKSIM": program})
+    assert done.stdout == b"key[0:3] = 0001 (1)\nkey[0:3] = 0001 (1)\n"
+
+
 @pytest.mark.parametrize("text, number", [("31", 31), ("0x1f", 31), ("1Fh", 31), ("0b1_1111", 31), ("5'h1f", 31), ("5'd31", 31), ("'b11111", 31), ("0031", 31),
                                           ("5'b2", None), ("1f", None), ("h", None), ("", None)])
 def test_numbers_as_people_write_them(text: str, number: int) -> None:

@@ -241,8 +241,10 @@ def test_what_nothing_drives_is_said(tmp_path, capsys) -> None:
 def test_names_of_buses(tmp_path) -> None:
     names = NAMES | {"up": {"bits": [2, 3], "attributes": {}, "offset": 4, "upto": 1}, "part.down": {"bits": [3, 4], "attributes": {}, "offset": 7}}
     assert written({"g": cell("$_NOT_", A=2, Y=5)}, tmp_path, names) == 0
-    gates = read_netlist(tmp_path / "n").gates
+    netlist = read_netlist(tmp_path / "n")
+    gates = netlist.gates
     # up is [4:5], with 5 the lowest bit
+    assert netlist.ascending == {"up": "up[4:5]"} and (tmp_path / "n").read_text().startswith("# bus up[4:5]\n")
     assert {name: gate.pins[0] for name, gate in gates.items() if gate.kind is Kind.BUFF} == {
         "up[5]": "a", "up[4]": "b", "part.down[7]": "b", "part.down[8]": "c"}
 
