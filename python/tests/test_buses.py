@@ -44,9 +44,9 @@ def test_names_lists_signals(write, capsys) -> None:
 def test_draw_takes_a_bus_by_its_name(write, tmp_path, program, monkeypatch, capsys) -> None:
     pytest.importorskip("matplotlib", reason="matplotlib is missing (Debian's package python3-matplotlib)")
     monkeypatch.setenv("BACKSIM", program)
-    files = [str(write("n", NETLIST)), str(write("t", "")), str(write("s", "horizon 5\nset part.count[1] 2 1\n"))]
-    assert main(["draw", *files, "part.count", "-o", str(tmp_path / "p.svg")]) == 0
-    assert "part.count[2:0]" in (tmp_path / "p.svg").read_text()
+    files = [str(write("n", f"# bus mem[1][3:4]\n{NETLIST}")), str(write("t", "")), str(write("s", "horizon 5\nset part.count[1] 2 1\n"))]
+    assert main(["draw", *files, "part.count", "m*", "-o", str(tmp_path / "p.svg")]) == 0
+    assert "part.count[2:0]" in (tmp_path / "p.svg").read_text() and "mem[1][3:4]" in (tmp_path / "p.svg").read_text()
     assert main(["draw", *files, "gap", "-o", str(tmp_path / "q.svg")]) == 2
     assert capsys.readouterr().err == f"{files[0]}: the bus gap[2:0] has no bit gap[1]: name its bits, or a range that has all\n"
 
@@ -59,8 +59,8 @@ def test_a_bus_is_named_as_it_was_declared(write, program, tools) -> None:
     said = [tools("why", *files, *words, env={"BACKSIM": program}).stdout.decode() for words in (("key", 5), ("y", 2), ("word", 1))]
     assert said[0].startswith("key[0:3] is 0001 at 5\n") and "x: 8 inputs have no value before 2: key[0:3], word[3:0]\n" in said[1]
     assert said[2].startswith("word[3:0] is xxxx at 1\n")
-    done = tools("ask", *files, input=b"key 5\n[kw]* 1\nkey* 5\n", env={"BACKSIM": program})
-    assert done.stdout == b"key[0:3] = 0001 (1)\nkey[0:3] = 0001 (1)\n"
+    done = tools("ask", *files, input=b"key 5\nkez 5\nkey* 5\n", env={"BACKSIM": program})
+    assert done.stdout == b"key[0:3] = 0001 (1)\nkey[0:3] = 0001 (1)\n" and done.stderr.endswith(b"there is no signal kez; near it: key[0:3]\n")
 
 
 @pytest.mark.parametrize("text, number", [("31", 31), ("0x1f", 31), ("1Fh", 31), ("0b1_1111", 31), ("5'h1f", 31), ("5'd31", 31), ("'b11111", 31), ("0031", 31),

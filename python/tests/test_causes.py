@@ -77,6 +77,17 @@ def test_a_register_that_was_never_set(enabled, program) -> None:
     assert str(why).splitlines()[:2] == ["y is x at 42", "x: flip-flop q was never set before it was read"]
 
 
+def test_a_register_keeps_its_value_through_gates_that_a_tool_named(write, program) -> None:
+    """q takes d, through two gates, at the edge at 5, and from 8 on en is 0: it has the value still at the edges 15, 25 and 35."""
+    files = [write("n", "INPUT(d)\nINPUT(en)\nq = DFF($m)\n$m = OR($a, $b)\n$a = AND($n, q)\n$b = AND(en, d)\n$n = NOT(en)\n"),
+             write("t", "clock 5 10\n"), write("s", "horizon 50\nset d 0 1\nset en 0 1\nset en 8 0\n")]
+    with Session(*files, program=program) as session:
+        why = session.explain("q", 42)
+    cause = next(cause for cause in why.causes if "d" in cause.names)
+    assert [(step.name, step.start, step.what) for step in why.chain(cause, "d")] == [
+        ("q", 36, "flip-flop, took d through 2 gates at the edge at 5, kept its value at 3 edges, 15 to 35"), ("d", 0, "input, set at 0")]
+
+
 def test_an_input_that_decides(enabled, program) -> None:
     """rst is 0 from 20 on, and gates 0 through the AND whatever q is."""
     why = enabled(program, "horizon 100\nset d 0 1\nset en 0 1\nset rst 0 1\nset rst 20 0\n", "$and$1", 42)

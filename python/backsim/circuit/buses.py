@@ -69,20 +69,20 @@ def full_name(name: str, names: Collection[str], ascending: Collection[str] = ()
     return full
 
 
-def nearest(name: str, names: Collection[str], known: Collection[str] = ()) -> tuple[str, ...]:
+def nearest(name: str, names: Collection[str], known: Collection[str] = (), ascending: Collection[str] = ()) -> tuple[str, ...]:
     """At most three of the names that are like the name, the most alike first. Where the name is that of no bit, a bus stands in place of
     its bits; these are of `known`, all names, or else of the names."""
     if name.endswith("]"):
         return tuple(get_close_matches(name, names, _NEAREST))
     stems = dict.fromkeys(_LAST_PLACE.sub("", own) for own in names)
     every = frozenset(known or names)
-    return tuple(_known_by(stem, every) for stem in get_close_matches(name, stems, _NEAREST))
+    return tuple(_known_by(stem, every, ascending) for stem in get_close_matches(name, stems, _NEAREST))
 
 
-def _known_by(stem: str, names: Collection[str]) -> str:
+def _known_by(stem: str, names: Collection[str], ascending: Collection[str]) -> str:
     """The signal or the bus of this stem; of one bit, or of a bus that lacks some, the lowest bit that is there."""
     try:
-        full = full_name(stem, names)
+        full = full_name(stem, names, ascending)
     except UsageError:
         return f"{stem}[{min(_places(stem, names))}]"
     bits = bits_of(full)

@@ -6,7 +6,9 @@ from pathlib import Path
 
 from ..command_line.arguments import moment, unit_of_session
 from ..errors import WordsError
+from ..formats.netlist import ascending_in
 from ..formats.stimulus import read_horizon
+from ..formats.text import read_bytes
 from ..formats.units import Unit, units_of, units_until
 from ..formats.vcd import Selection, read_vcd
 from ..pictures.figures import FORMS
@@ -55,6 +57,7 @@ def run(arguments: argparse.Namespace) -> int:
     unit = _unit_of(arguments, names)
     start, stop = _window(arguments, names, unit)
     marks = [units_of(mark, unit) for mark in arguments.mark]
+    ascending: dict[str, str] = {}
     if arguments.replies:
         rows = chosen(rows_of_replies(arguments.replies), names, arguments.replies)
     elif arguments.vcd:
@@ -63,8 +66,9 @@ def run(arguments: argparse.Namespace) -> int:
         if len(names) < 4:
             raise WordsError("say NETLIST TIMING STIMULUS and the names of the signals, or --replies FILE, or --vcd FILE")
         rows = rows_of_session(names[:3], names[3:], start, stop, arguments.budget)
+        ascending = ascending_in(read_bytes(names[0]))
     if not arguments.bits:
-        rows = with_buses(rows)
+        rows = with_buses(rows, ascending)
     picture = waves_picture(rows, form, start=start, stop=stop, radix=arguments.radix, marks=marks, title=arguments.title,
                             unit=str(unit) if unit else "")
     write_picture(arguments.output, picture)

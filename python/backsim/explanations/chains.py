@@ -41,13 +41,20 @@ def steps_of(way: Way, numbers: Sequence[int]) -> tuple[Step, ...]:
     nodes = way.graph.nodes
     blocks: list[list[int]] = []
     for place, number in enumerate(numbers):
-        if place and way.is_within(nodes[numbers[place - 1]], nodes[number]):
+        if place and (way.is_within(nodes[numbers[place - 1]], nodes[number]) or _is_kept(way, blocks[-1], nodes[number])):
             blocks[-1].append(number)
         else:
             blocks.append([number])
     causes = [*(nodes[block[0]] for block in blocks[1:]), None]
     steps = [_step_of(way, block, cause) for block, cause in zip(blocks, causes)]
     return tuple(_folded(steps))
+
+
+def _is_kept(way: Way, block: Sequence[int], cause: Node) -> bool:
+    """Whether a flip-flop takes the value that it has, through gates that only a tool named at most."""
+    head, *gates = (way.graph.nodes[number] for number in block)
+    return head.role is Role.FLOP and (cause.name, cause.role, cause.value) == (head.name, head.role, head.value) \
+        and all(node.name == head.name or way.parts.serves(node.name) for node in gates)
 
 
 def _step_of(way: Way, numbers: Sequence[int], cause: Node | None) -> Step:

@@ -2,7 +2,7 @@
 from __future__ import annotations
 
 import re
-from collections.abc import Iterable, Sequence
+from collections.abc import Collection, Iterable, Sequence
 
 from ..circuit.buses import wave_of
 from ..records import dataclass
@@ -60,9 +60,10 @@ def _common(windows: Sequence[Sequence[tuple[int, int]]]) -> list[tuple[int, int
     return found
 
 
-def with_buses(rows: Sequence[Row]) -> list[Row]:
-    """The rows, with those of the bits `count[7]` to `count[0]` as one row `count[7:0]`, at the place of the first. Bits are joined
-    where at least two are there, their numbers follow one another, and all are known at the same times."""
+def with_buses(rows: Sequence[Row], ascending: Collection[str] = ()) -> list[Row]:
+    """The rows, with those of the bits `count[7]` to `count[0]` as one row `count[7:0]`, and of a bus that is `ascending` as `count[0:7]`,
+    at the place of the first. Bits are joined where at least two are there, their numbers follow one another, and all are known at the same
+    times."""
     groups: dict[str, dict[int, Row]] = {}
     for row in rows:
         parts = _BIT.fullmatch(row.label)
@@ -78,8 +79,8 @@ def with_buses(rows: Sequence[Row]) -> list[Row]:
             joined.append(row)
         elif parts[1] not in done:
             done.add(parts[1])
-            high, low = max(bits), min(bits)
-            joined.append(bus_row(f"{parts[1]}[{high}:{low}]", [bits[place] for place in range(high, low - 1, -1)]))
+            places = sorted(bits, reverse=parts[1] not in ascending)
+            joined.append(bus_row(f"{parts[1]}[{places[0]}:{places[-1]}]", [bits[place] for place in places]))
     return joined
 
 

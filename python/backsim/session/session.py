@@ -260,8 +260,7 @@ class Session(SessionQuestions):
         """At most three names of the netlist that are like the name, the most alike first."""
         if name not in self._nearest:
             try:
-                known = self.netlist.names
+                self._nearest[name] = buses.nearest(name, self.netlist.names, ascending=self.netlist.ascending)
             except FormatError:
-                known = ()
-            self._nearest[name] = buses.nearest(name, known)
+                self._nearest[name] = ()
         return self._nearest[name]

@@ -157,7 +157,7 @@ class Index:
     def nearest(self, name: str) -> tuple[str, ...]:
         """At most three signals and buses whose names are like the name."""
         begins = [known for known in self._names if known[:2] == name[:2]][:_COMPARED]
-        return nearest(name, begins or self._names[:_COMPARED], self._kinds)
+        return nearest(name, begins or self._names[:_COMPARED], self._kinds, self._ascending)
 
     def first(self, count: int) -> list[str]:
         """The signals and buses to begin with: the outputs, and where these are few the inputs above them, without constants of a converter."""
