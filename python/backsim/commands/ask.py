@@ -9,6 +9,7 @@ import threading
 from collections.abc import Iterator
 from contextlib import contextmanager, nullcontext, suppress
 from pathlib import Path
+from types import FrameType
 from typing import Any
 
 from ..command_line.arguments import add_files, add_memo, add_program, lines_of_file, unit_of_session
@@ -45,6 +46,7 @@ class _Prompt:
 
     def __init__(self, arguments: argparse.Namespace) -> None:
         self._arguments = arguments
+        self._is_interrupted = False
         self._session = self._begun()
 
     def _begun(self) -> Session:
@@ -76,43 +78,54 @@ class _Prompt:
 
     def talk(self) -> int:
         """Answers the lines that are typed."""
-        before = signal.signal(signal.SIGINT, signal.default_int_handler)
+        before, told = signal.signal(signal.SIGINT, self._interrupt), sys.unraisablehook
+        sys.unraisablehook = _told_but_interrupts
         try:
             with _Line(self) as line:
                 print(f"{os.path.basename(self._arguments.netlist)}, times 0 to {self._session.horizon:,}; `help` lists what can be asked")
                 answers = self._answers()
                 while True:
                     try:
+                        if self._is_interrupted:
+                            answers = self._begun_anew()
                         text = line.next()
                         if text is None:
                             break
-                        answers = self._answered(answers, text)
+                        self._answer(answers, text)
                     except KeyboardInterrupt:
                         print()  # Ctrl-C between an answer and the next line
-                        answers = self._begun_anew()
         except EOFError:
             pass
         finally:
             signal.signal(signal.SIGINT, before)
+            sys.unraisablehook = told
             self._session.close()
         return 0
 
-    def _answered(self, answers: Answers, line: str) -> Answers:
-        """Writes the answer to a line; gives what answers the next one."""
+    def _interrupt(self, number: int, frame: FrameType | None) -> None:
+        """Ctrl-C. It is noted too, since Python lets go of an exception that comes while an object is removed."""
+        self._is_interrupted = True
+        raise KeyboardInterrupt
+
+    def _answer(self, answers: Answers, line: str) -> None:
+        """Writes the answer to a line, or that it was given up, whatever came of it by then."""
         try:
             for text in answers.lines(line):
                 print(text)
-        except SessionError:
-            raise
-        except BacksimError as error:
-            print(error)
         except KeyboardInterrupt:
+            pass
+        except SessionError:
+            if not self._is_interrupted:
+                raise
+        except BacksimError as error:
+            if not self._is_interrupted:
+                print(error)
+        if self._is_interrupted:
             print("given up; the session begins anew")
-            return self._begun_anew()
-        return answers
 
     def _begun_anew(self) -> Answers:
         """What answers by another session, after Ctrl-C: a terminal sends that to the program too, which may have ended by it."""
+        self._is_interrupted = False
         with suppress(SessionError):
             self._session.close()
         self._session = self._begun()
@@ -208,3 +221,9 @@ def _without_interrupts() -> Iterator[None]:
         yield
     finally:
         termios.tcsetattr(terminal, termios.TCSANOW, before)
+
+
+def _told_but_interrupts(what: sys.UnraisableHookArgs) -> None:
+    """Tells an exception of which Python let go, but for those of Ctrl-C."""
+    if what.exc_type is not KeyboardInterrupt:
+        sys.__unraisablehook__(what)
