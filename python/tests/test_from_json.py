@@ -49,12 +49,14 @@ CLOCKS = ["--clock", "clk=50,100", "--clock", "clk_falls=100,100"]
 
 @pytest.fixture(scope="module")
 def chip(tmp_path_factory) -> Path:
-    """A folder with the JSON of the chip, and dumps of two test benches: the second reset lasts over an edge, or does not."""
+    """A folder with the JSON of the chip, and dumps of three test benches: the second reset lasts over an edge, or does not; or the first
+    one lasts from 0 to 20, before any edge."""
     folder = tmp_path_factory.mktemp("chip")
     (folder / "chip.v").write_text(CHIP)
     yosys(folder, "read_verilog chip.v; synth -flatten -noabc -top chip; write_json chip.json")
-    for name, long in (("good", 100), ("short", 20)):
-        (folder / "test.v").write_text(BENCH.replace("LONG", str(long)))
+    begins = BENCH.replace("rst_n = 1, en", "rst_n = 0, en").replace("#20 rst_n = 0; #100 rst_n = 1;", "#20 rst_n = 1; #100")
+    for name, bench, long in (("good", BENCH, 100), ("short", BENCH, 20), ("begins", begins, 100)):
+        (folder / "test.v").write_text(bench.replace("LONG", str(long)))
         icarus(folder, folder / "test.v", folder / "chip.v", top="test")
         (folder / "chip.vcd").rename(folder / f"{name}.vcd")
     return folder
@@ -106,6 +108,26 @@ def test_a_reset_without_an_edge_is_refused_by_name(chip, tmp_path, capsys) -> N
     # the reset is active from 20 + 100 + 80 + 100 + 200 + 175 = 675 on
     assert capsys.readouterr().err.endswith("can't be had: its asynchronous reset rst_n is active from 675 to 695 with no edge of clk in "
                                             "between, so a flip-flop would forget it\n")
+
+
+@pytest.mark.parametrize("how, behind", [("edge", ""), ("gates", "$1")])
+def test_a_reset_before_the_first_edge_is_an_initial_value(how: str, behind: str, chip, tmp_path, capsys) -> None:
+    """r is reset to 0, whatever the source says it begins with, and q to 5. Up to 600 no other reset begins."""
+    words = ["--async-reset", how, "--vcd", chip / "begins.vcd", "--scope", "test.dut", *CLOCKS[2:]]
+    assert convert(chip, tmp_path, *words) == 0
+    expected = {f"r[{bit}]{behind}": "0" for bit in range(4)} | {f"u1.q[{bit}]{behind}": "1010"[bit] for bit in range(4)}
+    assert read_timing(tmp_path / "t").initials == expected
+    assert main(["compare", str(tmp_path / "n"), str(tmp_path / "t"), str(chip / "begins.vcd"), "test.dut", "--to", "600"]) == 0
+    assert capsys.readouterr().out.endswith("nets and buses that differ: 0\n")
+
+
+def test_of_a_set_and_a_reset_none_is_an_initial_value(tmp_path, write, capsys) -> None:
+    """b is active up to 3, and the clock a rises at 5, 10 and so on."""
+    dump = write("d.vcd", "$timescale 1 ns $end\n$scope module m $end\n$var wire 1 ! a $end\n$var wire 1 % b $end\n$var wire 1 & c $end\n"
+                 "$upscope $end\n$enddefinitions $end\n#0\n0!\n1%\n0&\n#3\n0%\n#5\n1!\n#8\n0!\n#10\n1!\n#13\n0!\n")
+    register = {"q": cell("$_DFFSR_PPP_", "Q", C=2, S=4, R=3, D=4, Q=5)}
+    assert written(register, tmp_path, words=("--async-reset", "gates", "--vcd", str(dump), "--scope", "m")) == 2
+    assert "its asynchronous reset b is active from 0 to 3" in capsys.readouterr().err
 
 
 def test_a_clock_that_may_begin_with_an_edge_is_refused(chip, tmp_path, capsys) -> None:

@@ -65,7 +65,20 @@ def test_a_clock_with_such_a_name_and_other_edges_is_its_own(write, capsys) -> N
 
 def test_an_input_that_changes_at_an_edge(write, capsys) -> None:
     status, out, _ = settled(write, capsys, stimulus="horizon 100\nset a 0 0\nset a 30 1\n")
-    assert (status, out.splitlines()[0]) == (1, "inputs to clock: path 4, time 0, TOO LATE")
+    assert (status, out.splitlines()[0]) == (1, "inputs to clock: path 4, time 0, TOO LATE: a at the edge at 30")
+
+
+def test_an_input_is_compared_with_the_clocks_that_it_leads_to(write, capsys) -> None:
+    """a changes at an edge of d, which does not see it: from 21 to 30 are 9. b changes at an edge of c: from 40 to 41 is 1. e leads to
+    both, and changes with a at 61, 9 before 70 and at an edge of d."""
+    netlist = "INPUT(a)\nINPUT(b)\nINPUT(e)\nm = AND(a, e)\np = DFF(m)\nq = DFF(b)\n"
+    timing = "version 2\nclock c 10 20\nclock d 21 20\nclocked p c\nclocked q d\n"
+    stimulus = "horizon 100\nset a 0 0\nset a 21 1\nset a 61 0\nset b 0 1\nset b 40 0\nset b 50 1\nset e 0 1\nset e 61 0\n"
+    status, out, _ = settled(write, capsys, netlist, timing, stimulus)
+    assert (status, out.splitlines()[:2]) == (0, ["inputs to clock c: path 1, time 9", "inputs to clock d: path 0, time 1"])
+    status, out, _ = settled(write, capsys, netlist.replace("DFF(b)", "DFF(n)\nn = NAND(b, e)"), timing, stimulus + "set b 61 0\n")
+    assert (status, out.splitlines()[:2]) == (1, ["inputs to clock c: path 1, time 9",
+                                                  "inputs to clock d: path 1, time 0, TOO LATE: b and 1 more at the edge at 61"])
 
 
 def test_a_setting_that_repeats_a_value_is_no_change(write, capsys) -> None:

@@ -11,12 +11,12 @@ from ..convert.design import Design, design_of
 from ..convert.dump import Dump, clock_of, read_dump
 from ..convert.dump_options import add_unit, span_of
 from ..convert.output import say, whole_text
-from ..convert.resets import lost_reset
+from ..convert.resets import is_initial, lost_reset
 from ..convert.yosys import read_module
 from ..errors import FormatError, WordsError
 from ..formats.netlist import with_sources, write_netlist
 from ..formats.text import number_of
-from ..formats.timing import Clock, write_timing
+from ..formats.timing import Clock, Timing, write_timing
 from ..formats.units import is_time
 from ..limits import MOST_TIME
 
@@ -60,7 +60,7 @@ def run(arguments: argparse.Namespace) -> int:
         raise WordsError(f"no flip-flop has the clock {strange.pop()}; the clocks are: {known}")
     timing = timing_of(design.edges, design.initials, lambda edge: _times_of(edge, given, dump, arguments.json))
     timing.unit = unit
-    _check_resets(design, timing.clocks, dump, arguments.json)
+    _take_resets(design, timing, dump, arguments.json)
     with whole_text(arguments.netlist) as stream:
         write_netlist(with_sources(design.netlist, design.sources), stream)
     with whole_text(arguments.timing) as stream:
@@ -73,7 +73,7 @@ def run(arguments: argparse.Namespace) -> int:
 def _names_for(design: Design) -> set[str]:
     """The signals whose waves tell the times of clocks and resets."""
     signals = {own.signal for edge in set(design.edges.values()) for own in chain_of(edge, design.netlist)}
-    return signals | {reset for _, reset, _, _ in design.resets}
+    return signals | {control.port for control, _ in design.resets}
 
 
 def _take_roots(design: Design, given: dict[str, Clock], dump: Dump | None) -> None:
@@ -81,7 +81,7 @@ def _take_roots(design: Design, given: dict[str, Clock], dump: Dump | None) -> N
     dumped = dump.bits(_names_for(design)) if dump else {}
     roots = {edge: root_of(edge, design.netlist, lambda own: own.name in given or own.signal in dumped) for edge in set(design.edges.values())}
     design.edges = {flop: roots[edge] for flop, edge in design.edges.items()}
-    design.resets = [(register, reset, active, roots[edge]) for register, reset, active, edge in design.resets]
+    design.resets = [(control, roots[edge]) for control, edge in design.resets]
 
 
 def _clock_words(word: str) -> tuple[str, str, str]:
@@ -103,15 +103,19 @@ def _times_of(edge: Edge, given: dict[str, Clock], dump: Dump | None, path: Path
     return clock_of(dump, edge.signal, edge.is_falling)
 
 
-def _check_resets(design: Design, clocks: dict[str, Clock], dump: Dump | None, path: Path) -> None:
-    """Refuses a reset of which the dump shows that no edge is in it; says where that is not known."""
+def _take_resets(design: Design, timing: Timing, dump: Dump | None, path: Path) -> None:
+    """Gives a flip-flop the value of a reset that is over before its first edge. Refuses any other reset of which the dump shows that no
+    edge is in it; says where that is not known."""
     unknown: dict[str, None] = {}
-    for register, reset, active, edge in design.resets:
-        lost = lost_reset(dump, reset, active, clocks[edge.name]) if dump else None
+    for control, edge in design.resets:
+        clock, after = timing.clocks[edge.name], 0
+        if dump and control.is_alone and is_initial(dump, control.port, control.active, clock):
+            timing.initials[control.flop], after = control.value, clock.first
+        lost = lost_reset(dump, control.port, control.active, clock, after) if dump else None
         if lost is None:
-            unknown[reset] = None
+            unknown[control.port] = None
         elif lost:
-            raise FormatError(path, None, f"the register {register} can't be had: its asynchronous reset {reset} is active from "
+            raise FormatError(path, None, f"the register {control.register} can't be had: its asynchronous reset {control.port} is active from "
                               f"{lost[0]} to {lost[1]} with no edge of {edge.name} in between, so a flip-flop would forget it")
     if unknown:
         say(f"not looked at, since no dump has them: whether each time that {', '.join(unknown)} is active has a clock's edge in it")

@@ -222,7 +222,7 @@ class _Annotator:
             return "of an instance that the netlist does not have" if path.place.instance else "of the design itself, which is no cell"
         if path.target not in instance.outputs:
             return "to a port that is no output, or is not connected"
-        if any(port == path.source for port, _, _ in instance.template.resets):
+        if any(control.port == path.source for control in instance.template.resets):
             return "of a set or reset that acts at edges (--async-reset edge)"
         return "from a port on which the output does not depend"
 

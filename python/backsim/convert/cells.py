@@ -46,18 +46,31 @@ class Flop:
     register: str
 
 
+@dataclass(frozen=True, slots=True)
+class Control:
+    """An asynchronous set or reset: its port and the value at which it acts, the symbols of the register and of its flip-flop, and the
+    value that it gives these. `is_alone` where the flip-flop has no other and this port alone makes it act."""
+
+    port: str
+    active: str
+    register: str
+    flop: str
+    value: str
+    is_alone: bool
+
+
 @dataclass(slots=True)
 class Template:
     """Gates and flip-flops by their symbols, in the order of their making. `fresh` has the symbols that need a new name, each with the
-    symbol that it is made of, `inverters` the ports whose negations are read, `constants` the values of symbols that stand for one, and `resets` the asynchronous ones as
-    (port, active value, symbol of the register)."""
+    symbol that it is made of, `inverters` the ports whose negations are read, `constants` the values of symbols that stand for one, and `resets` the asynchronous sets and
+    resets."""
 
     gates: dict[str, Gate] = field(default_factory=dict)
     fresh: dict[str, str] = field(default_factory=dict)
     inverters: dict[str, str] = field(default_factory=dict)
     constants: dict[str, str] = field(default_factory=dict)
     flops: dict[str, Flop] = field(default_factory=dict)
-    resets: list[tuple[str, str, str]] = field(default_factory=list)
+    resets: list[Control] = field(default_factory=list)
     is_library: bool = False
 
     def leaves(self, symbol: str) -> Iterator[Leaf]:
@@ -204,8 +217,10 @@ class _LibraryMaker:
         self.template.flops[symbol] = Flop(symbol, clock.sources[0], own.is_falling != (clock.bits == 0b01), register)
         if is_gated:
             self.with_controls(register, symbol, controls)
-        for function, _ in controls:
-            self.template.resets.extend((source, "1" if function.is_identity else "0", register) for source in function.sources)
+        for function, value in controls:
+            is_alone = len(controls) == len(function.sources) == 1
+            self.template.resets.extend(Control(source, "1" if function.is_identity else "0", register, symbol, value, is_alone)
+                                        for source in function.sources)
         return register
 
     def controls(self, state: State) -> list[tuple[Function, str]]:
@@ -294,7 +309,7 @@ def _make_register(make: _Recorder, register: Register, how: Asynchronous | None
     if is_gated:
         _with_controls(make, "Q", flop, controls)
     if is_asynchronous:
-        make.template.resets.extend((port, active, "Q") for port, active, _ in controls)
+        make.template.resets.extend(Control(port, active, "Q", flop, value, len(controls) == 1) for port, active, value in controls)
 
 
 def _with_controls(make: _Recorder, name: str, pin: str, controls: list[tuple[str, str, str]]) -> str:

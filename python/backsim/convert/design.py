@@ -8,7 +8,7 @@ from ..errors import FormatError
 from ..formats.netlist import Netlist
 from ..records import dataclass
 from .build import Builder
-from .cells import Asynchronous, NeedsHow, Template, Templates
+from .cells import Asynchronous, Control, NeedsHow, Template, Templates
 from .clocks import Edge
 from .functions import NotHad
 from .registers import register_of, why_not
@@ -31,14 +31,14 @@ class Instance:
 
 @dataclass(slots=True)
 class Design:
-    """A netlist; the edge that each flip-flop takes its pin at, its initial value where it has one, the asynchronous sets and resets as
-    (register, reset signal, active value, edge), the instances by their names, the place of each signal in the source, and what is to
+    """A netlist; the edge that each flip-flop takes its pin at, its initial value where it has one, the asynchronous sets and resets, of
+    signals in place of symbols, each with the edge of its register, the instances by their names, the place of each signal in the source, and what is to
     be told."""
 
     netlist: Netlist
     edges: dict[str, Edge] = field(default_factory=dict)
     initials: dict[str, str] = field(default_factory=dict)
-    resets: list[tuple[str, str, str, Edge]] = field(default_factory=list)
+    resets: list[tuple[Control, Edge]] = field(default_factory=list)
     instances: dict[str, Instance] = field(default_factory=dict)
     sources: dict[str, str] = field(default_factory=dict)
     notes: list[str] = field(default_factory=list)
@@ -207,9 +207,10 @@ class _Maker:
             init = self.inits.get(ports.get(flop.register, ""))
             if init is not None:
                 self.design.initials[names[flop.symbol]] = init
-        for port, active, register in template.resets:
-            if ports.get(port, "0") not in CONSTANTS:
-                self.design.resets.append((names[register], names[port], active, edges[register]))
+        for own in template.resets:
+            if ports.get(own.port, "0") not in CONSTANTS:
+                control = replace(own, port=names[own.port], register=names[own.register], flop=names[own.flop])
+                self.design.resets.append((control, edges[own.register]))
 
     def shown(self, cell: Cell) -> str:
         bits = [bit for port in cell.outputs for bit in cell.ports[port]]
