@@ -137,6 +137,13 @@ def test_a_bus_and_what_it_is_as_json(write, program, capsys, monkeypatch) -> No
     assert told[0] == "s[1:0] is 0x at 10" and {"0x: input a[1], set to 0 at 3", "0x: input a[0] is never set"} <= set(told)
 
 
+def test_a_flip_flop_without_a_clock_is_told(write, program, capsys, monkeypatch) -> None:
+    monkeypatch.setenv("BACKSIM", program)
+    files = [str(write("b.bench", "INPUT(a)\nOUTPUT(y)\ny = NOT(q)\nq = DFF(a)\n")), str(write("b.timing", "")), str(write("b.stim", "horizon 20\nset a 3 0\n"))]
+    assert main(["why", *files, "y", "10"]) == 0
+    assert capsys.readouterr().out.splitlines()[-1] == "  0  q = x  no initial value, and no clock"
+
+
 def test_the_processor_of_the_example(example, program) -> None:
     """A register without a reset that nothing writes before 8,701 is x; the words of the register file that come to it are no way out, as
     is worked out by hand from its source: `if (code == PUT) result <= left`."""

@@ -147,6 +147,15 @@ def test_times_of_clocks_in_seconds(chip, tmp_path, capsys) -> None:
         assert cause in capsys.readouterr().err
 
 
+@pytest.mark.parametrize("timing, cause", [
+    ("nowhere/t", "it can't be written: No such file or directory"), ("./n", "two of the files that the command is told to write are this one")])
+def test_no_netlist_is_left_where_its_timing_file_can_not_be_written(timing: str, cause: str, chip, tmp_path, capsys) -> None:
+    words = [str(chip / "chip.json"), str(tmp_path / "n"), f"{tmp_path}/{timing}", *CLOCKS, "--async-reset", "edge"]
+    assert main(["from-json", *words]) == 2
+    assert capsys.readouterr().err == f"{Path(words[2])}: {cause}\n"
+    assert list(tmp_path.iterdir()) == []
+
+
 def test_places_of_yosys_itself_are_no_places_of_the_source(tmp_path) -> None:
     own = "/usr/bin/../share/yosys/techmap.v:205.26-205.31"
     gates = {"g": cell("$_NOT_", A=2, Y=5) | {"attributes": {"src": f"top.v:3.1-3.9|child.v:7.2-7.8|top.v:0.0-0.0|{own}"}},

@@ -1,6 +1,7 @@
 """The command settled. The expected paths and times are worked out by hand."""
 from __future__ import annotations
 
+import pytest
 from backsim.main import main
 
 NETLIST = """INPUT(a)
@@ -84,6 +85,12 @@ def test_an_input_is_compared_with_the_clocks_that_it_leads_to(write, capsys) ->
 def test_a_setting_that_repeats_a_value_is_no_change(write, capsys) -> None:
     """a is 1 from 21 on, so at the edge at 30 it does not change."""
     assert settled(write, capsys, stimulus=STIMULUS + "set a 30 1\n") == settled(write, capsys)
+
+
+@pytest.mark.parametrize("netlist, told", [
+    ("INPUT(a)\nq = DFF(a)\n", "no clock: q, which keep"), ("INPUT(a)\nq = DFF(a)\nr = DFF(q)\nt = DFF(r)\n", "no clock: q and 2 more flip-flops, which keep")])
+def test_flip_flops_without_a_clock_are_told(netlist: str, told: str, write, capsys) -> None:
+    assert settled(write, capsys, netlist, "", "horizon 100\nset a 5 0\n") == (0, f"{told} what they begin with\nlongest path 0\n", "")
 
 
 def test_a_stimulus_that_sets_nothing_is_told(write, capsys) -> None:

@@ -41,12 +41,13 @@ class Pair:
 @dataclass(frozen=True, slots=True)
 class Settling:
     """What was found: the pairs of a source and a clock; the longest path to any signal, so that so long after the last change of an
-    input and the last edge each signal has its settled value; and whether an input that a gate or flip-flop reads changes after
-    time 0 at all."""
+    input and the last edge each signal has its settled value; whether an input that a gate or flip-flop reads changes after time 0 at
+    all; and the flip-flops that have no clock."""
 
     pairs: tuple[Pair, ...]
     longest: int
     has_changes: bool
+    unclocked: tuple[str, ...]
 
 
 def arrivals(timing: Timing, gates: Iterable[Gate], sources: Mapping[str, int], chosen: Callable[[Iterable[int]], int] = max) -> dict[str, int]:
@@ -66,13 +67,16 @@ def settle(netlist: Netlist, timing: Timing, stimulus: Stimulus) -> Settling:
     flops: dict[str, list[Gate]] = {}
     edges: dict[str, range] = {}
     shifts: dict[str, int] = {}
+    unclocked: list[str] = []
     for flop in netlist.flops():
         taken = timing.edges_of(flop.name)
-        if taken is not None:
-            name = f"clock {taken.name}".strip()
-            flops.setdefault(name, []).append(flop)
-            edges[name] = taken.clock.edges(stimulus.horizon)
-            shifts[flop.name] = taken.shift
+        if taken is None:
+            unclocked.append(flop.name)
+            continue
+        name = f"clock {taken.name}".strip()
+        flops.setdefault(name, []).append(flop)
+        edges[name] = taken.clock.edges(stimulus.horizon)
+        shifts[flop.name] = taken.shift
     read = {pin for gate in netlist.gates.values() for pin in gate.pins}
     changes = {name: {time for time, _ in stimulus.changes(name) if time > 0} for name in netlist.inputs if name in read}
     seen_by = {name: [own for own in _inputs_of(netlist, own_flops) if own in changes] for name, own_flops in flops.items()}
@@ -95,7 +99,7 @@ def settle(netlist: Netlist, timing: Timing, stimulus: Stimulus) -> Settling:
                 at_edge = next((time for time in times if time in edges[clock]), None) if source == INPUTS else None
                 movers = tuple(name for name in seen if at_edge in changes[name])
                 pairs.append(Pair(source, clock, path, name, shortest, min(gaps), bool(waits) and shortest + min(waits) <= 0, at_edge, movers))
-    return Settling(tuple(pairs), longest, any(changes.values()))
+    return Settling(tuple(pairs), longest, any(changes.values()), tuple(unclocked))
 
 
 def _inputs_of(netlist: Netlist, flops: Iterable[Gate]) -> list[str]:

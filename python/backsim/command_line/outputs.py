@@ -32,14 +32,20 @@ def write_whole(path: type_of_path, data: bytes) -> None:
 
 
 def check_places(*paths: type_of_path | None) -> None:
-    """FormatError where one of these files can't be written, for a command that works long before it writes. Nothing is left there."""
+    """FormatError where one of these files can't be written, or two are one file, for a command that works long before it writes, or that
+    writes several. Nothing is left there."""
+    places: set[str] = set()
     for path in paths:
         if path is None:
             continue
         try:
             mode = _mode_of(path)
             if mode is None or stat.S_ISREG(mode):
-                _check_place(os.path.realpath(path), mode)
+                place = os.path.realpath(path)
+                if place in places:
+                    raise FormatError(path, None, "two of the files that the command is told to write are this one")
+                places.add(place)
+                _check_place(place, mode)
             elif stat.S_ISDIR(mode):
                 raise IsADirectoryError(errno.EISDIR, os.strerror(errno.EISDIR))
         except (OSError, ValueError) as error:

@@ -6,6 +6,7 @@ from pathlib import Path
 
 from ..circuit.buses import matching, signals_of
 from ..command_line.arguments import add_program
+from ..command_line.outputs import check_places
 from ..convert.comparison import Changes, Comparison, Mismatch, at_edges, compare, events_of, settled_times, without_further_names
 from ..convert.dump import read_dump, stimulus_of, warning_of
 from ..convert.dump_options import add_unit, add_window, span_of
@@ -45,6 +46,7 @@ def add_arguments(parser: argparse.ArgumentParser) -> None:
 
 
 def run(arguments: argparse.Namespace) -> int:
+    check_places(arguments.stimulus, arguments.window)
     netlist = read_netlist(arguments.netlist)
     timing = read_timing(arguments.timing, netlist)
     wanted = _wanted(arguments.only, netlist, arguments.netlist)

@@ -5,6 +5,7 @@ import argparse
 from pathlib import Path
 
 from ..command_line.arguments import in_units
+from ..command_line.outputs import check_places
 from ..convert.cells import Asynchronous
 from ..convert.clocks import Edge, chain_of, root_of, timing_of
 from ..convert.design import Design, design_of
@@ -45,6 +46,7 @@ def add_arguments(parser: argparse.ArgumentParser) -> None:
 def run(arguments: argparse.Namespace) -> int:
     if (arguments.vcd is None) != (arguments.scope is None):
         raise WordsError("--vcd and --scope go together")
+    check_places(arguments.netlist, arguments.timing)
     words = list(map(_clock_words, arguments.clock))
     module = read_module(arguments.json, arguments.top)
     how = Asynchronous(arguments.async_reset) if arguments.async_reset else None

@@ -4,6 +4,7 @@ from __future__ import annotations
 import argparse
 from pathlib import Path
 
+from ..command_line.outputs import check_places
 from ..convert.dump import read_dump, replies_of, stimulus_of, warning_of
 from ..convert.dump_options import add_unit, add_window, span_of
 from ..convert.output import add_output, say, whole_text
@@ -47,6 +48,7 @@ def run(arguments: argparse.Namespace) -> int:
     if arguments.start != "0" and lines is None and netlist.flops() and not arguments.window:
         raise WordsError("the netlist has flip-flops, whose clocks and initial values a window shifts: say --timing "
                          "and --window too")
+    check_places(arguments.window, arguments.output)
     timing = read_timing(arguments.timing, netlist) if arguments.timing else None
     span = span_of(arguments, timing.unit if timing else None)
     dump = read_dump(arguments.vcd, arguments.scope, span, names | (names_for(netlist) if timing else set()))

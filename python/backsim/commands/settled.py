@@ -33,6 +33,9 @@ def run(arguments: argparse.Namespace) -> int:
         raise FormatError(arguments.netlist, netlist.gates[name].line, f"the gates of {name} make a cycle") from None
     if not found.has_changes and netlist.flops():
         print("inputs: none that is read is set after time 0, so no time was compared with their paths")
+    if found.unclocked:
+        count = len(found.unclocked)
+        print(f"no clock: {found.unclocked[0]}{f' and {count - 1} more flip-flops' * (count > 1)}, which keep what they begin with")
     for pair in found.pairs:
         late = f", TOO LATE at {pair.flop}" if pair.is_late else ""
         if pair.at_edge is not None:

@@ -12,6 +12,7 @@ from ..circuit.rules import read_design
 from ..collecting import without_collection
 from ..command_line.arguments import count_of, moment, unit_of_session
 from ..command_line.no_value import no_value_of
+from ..command_line.outputs import check_places
 from ..errors import FormatError, UsageError, WordsError
 from ..explanations.cells import explain
 from ..explanations.explanation import Explanation
@@ -69,6 +70,7 @@ def add_arguments(parser: argparse.ArgumentParser) -> None:
 
 def run(arguments: argparse.Namespace) -> int:
     form = form_of(arguments.output, FORMS) if arguments.output else None
+    check_places(arguments.output, arguments.html)
     with without_collection():
         return _tell(_explanation_of(arguments), form, arguments)
 

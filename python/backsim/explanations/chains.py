@@ -121,7 +121,8 @@ def _leaf_text(way: Way, node: Node) -> str:
             return f"input, set at {node.start:,}"
         return f"input, not set before {node.end:,}" if changes else "input, never set"
     elif node.role is Role.INITIAL:
-        return "no initial value" if node.value == "x" else "initial value"
+        value = "no initial value" if node.value == "x" else "initial value"
+        return value if way.design.clock_of(way.design.netlist.gates[node.name]) else f"{value}, and no clock"
     elif node.role is Role.EARLY:
         return f"before its delay of {node.end:,}"
     elif node.role is Role.UNSEEN:
