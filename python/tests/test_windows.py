@@ -4,6 +4,7 @@ from __future__ import annotations
 import os
 import subprocess
 import tracemalloc
+from itertools import product
 
 import pytest
 from backsim.convert.dump import Span, read_dump
@@ -78,6 +79,16 @@ def test_a_window_is_that_of_the_whole(start: int, stop: int | None, write, monk
         expected = whole.bits("test", [name])[name]
         assert [change for change in changes if change[0] > 0] == [(time - start, value) for time, value in expected if start < time <= end]
         assert changes[0] == (0, [value for time, value in expected if time <= start][-1])
+
+
+@pytest.mark.parametrize("before, after", [(" &", "\t&"), ("%\nb", "% b"), ("%\n", "% \n"), (" &", "\n&"), ("&\n", "& \n"), ("\nb", "\n b")])
+def test_what_is_before_a_window_may_have_other_blanks(before: str, after: str, write, monkeypatch) -> None:
+    path = write("d.vcd", HEADER + counted(40)[len(HEADER):].replace(before, after))
+    for block, number in product(range(200, 300, 9), range(20, 30)):
+        monkeypatch.setattr("backsim.formats.vcd.BLOCK", block)
+        # up to the rise of the clock `a` has bit 0 of the number of the period, and `d` the number modulo 16
+        bits = read_vcd(path, lambda vcd, start=1000 * number + 400: Selection(None, start, start)).bits("test")
+        assert "".join(bits[name][0][1] for name in ("clk", "a", "d[3]", "d[2]", "d[1]", "d[0]")) == f"0{number & 1}{number % 16:04b}"
 
 
 def test_words_of_a_change_may_be_on_lines_of_their_own(write) -> None:

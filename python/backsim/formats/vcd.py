@@ -273,17 +273,27 @@ class _Reader:
         return digits.isdigit() and int(digits) < self.start and b"$comment" not in block
 
     def skim(self, block: bytes) -> None:
-        """Takes the last value of each code of a block before the start."""
+        """Takes the last value of each code of a block before the start. Where a line is more than one time or change, or has blanks that
+        it needs not, the whole block is taken line by line."""
         lines = block.split(b"\n")
         done: set[bytes] = set()
         time = b""
+        has_tabs = b"\t" in block
         # each text once, the last first
         for line in dict.fromkeys(reversed(lines)):
             first = line[:1]
+            if line and first in b"bBrRsS":
+                code = line.partition(b" ")[2]
+                is_plain = code != b"" and b" " not in code
+            else:
+                code = line[1:]
+                is_plain = len(line) != 1 and b" " not in line
+            if has_tabs or not is_plain:
+                self.lines(lines)
+                return
             if first == b"#":
                 time = time or line
             elif line and line not in (b"$end", b"$dumpvars", b"$dumpall", b"$dumpon", b"$dumpoff"):
-                code = line.rpartition(b" ")[2] if first in b"bBrRsS" else line[1:]
                 if code not in done:
                     done.add(code)
                     if self.known.get(line) != _UNWANTED:
