@@ -74,6 +74,20 @@ def test_every_time(compared) -> None:
     assert (status, lines) == (1, ["0: p is x here, and 0 in the dump; chip.v:9; what it is made of does not differ; why p 0", "3 signals compared at 90 times; nets and buses that differ: 1"])
 
 
+def test_an_output_that_is_a_constant_is_left_out_of_every_time(write, program, capsys, monkeypatch) -> None:
+    # the BUFF of vdd shows 1 from 1 on, and that of gnd 0; what has another value in the dump differs from 0 on, where the BUFF is x
+    monkeypatch.setenv("BACKSIM", program)
+    netlist = write("n", "INPUT(a)\nINPUT(vdd)\nINPUT(gnd)\nOUTPUT(y)\nOUTPUT(one)\nOUTPUT(zero)\ny = NOT(a)\none = BUFF(vdd)\nzero = BUFF(gnd)\n")
+    header = ("$timescale 1 ns $end\n$scope module test $end\n$var wire 1 ! a $end\n$var wire 1 & y $end\n$var wire 1 ( one $end\n"
+              "$var wire 1 ) zero $end\n$upscope $end\n$enddefinitions $end\n")
+    words = ["compare", str(netlist), str(write("t", "default 1\n")), str(write("d.vcd", header + "#0\n0!\nx&\n1(\n0)\n#1\n1&\n#9\n")), "test"]
+    assert main([*words, "--every-time"]) == 0
+    assert capsys.readouterr().out == "1 signals compared at 10 times; nets and buses that differ: 0\n"
+    words[3] = str(write("d.vcd", header + "#0\n0!\nx&\n0(\n0)\n#1\n1&\n#9\n"))
+    assert main([*words, "--every-time"]) == 1
+    assert capsys.readouterr().out.startswith("0: one is x here, and 0 in the dump; ")
+
+
 def test_a_window(compared, tmp_path) -> None:
     words = ["00", "01", "10", "10", "00"]
     # the window begins at 25; the flip-flops are those of the dump directly before 50, so 49 and 59 are compared, of which 59 differs

@@ -39,7 +39,7 @@ def add_arguments(parser: argparse.ArgumentParser) -> None:
     add_unit(parser)
     add_window(parser)
     parser.add_argument("--every-time", action="store_true", help="compare at every time: for a dump with the delays of the timing file. A "
-                        "further name of a net, which a BUFF shows one unit later, is left out")
+                        "further name of a net, or of a constant, which a BUFF shows one unit later, is left out")
     parser.add_argument("--stimulus", type=Path, metavar="FILE", help="where the stimulus goes, for further questions")
     parser.add_argument("--window", type=Path, metavar="FILE", help="where the timing file of a window goes, for further questions")
     add_program(parser)

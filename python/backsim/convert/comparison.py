@@ -14,6 +14,7 @@ from ..limits import MOST_BUDGET, USUAL_BUDGET
 from ..records import dataclass
 from ..session.session import Session
 from ..values import Wave
+from .build import constant_value
 
 _BIT = re.compile(r"(.+)\[([0-9]{1,6})\]")
 EVENTS_OF_A_PIECE = 64
@@ -79,10 +80,15 @@ def settled_times(events: Sequence[int], longest: int, first: int, horizon: int)
 
 
 def without_further_names(netlist: Netlist, dumped: Mapping[str, Changes]) -> dict[str, Changes]:
-    """The signals without BUFFs that have in the dump, at every time, what their pins have, and so are further names of one net."""
+    """The signals without BUFFs that have in the dump, at every time, what their pins have, and so are further names of one net, or of a
+    constant."""
     def is_further(name: str) -> bool:
         gate = netlist.gates.get(name)
-        return gate is not None and gate.kind is Kind.BUFF and gate.pins[0] in dumped and dumped[gate.pins[0]] == dumped[name]
+        if gate is None or gate.kind is not Kind.BUFF:
+            return False
+        pin = gate.pins[0]
+        value = constant_value(pin) if pin in netlist.inputs else None
+        return dumped[name] == dumped.get(pin, None if value is None else [(0, value)])
 
     return {name: changes for name, changes in dumped.items() if not is_further(name)}
 
