@@ -122,6 +122,16 @@ def test_a_blif_file_at_fault_is_refused(text: str, cause: str, capsys, netlist,
     assert refused(capsys, "from-blif", netlist, path, vcd, "test.dut").startswith(f"{path}{cause}" if cause.startswith(":") else f"{path}: ")
 
 
+def test_what_a_clock_has_where_a_dump_begins_later_is_no_edge(capsys, netlist, write) -> None:
+    # the clock rises at 20, 40, 60 and so on, and the dump begins at 24, where it is 1
+    blif = write("b", BLIF.format(edge="re", first="1"))
+    path = write("d.vcd", HEADER + "#24\n1!\n0&\n#30\n0!\n#40\n1!\n#50\n0!\n#60\n1!\n#79\n")
+    assert "clock clk 40 20" in told(capsys, "from-blif", netlist, blif, path, "test.dut").splitlines()
+    # it begins with 0, so the first rise is an edge
+    path = write("d.vcd", HEADER + "#30\n0!\n0&\n#40\n1!\n#50\n0!\n#60\n1!\n#79\n")
+    assert "clock clk 40 20" in told(capsys, "from-blif", netlist, blif, path, "test.dut").splitlines()
+
+
 def test_a_clock_that_is_not_regular_is_refused(capsys, netlist, write) -> None:
     blif = write("b", BLIF.format(edge="re", first="1"))
     path = write("d.vcd", HEADER + "#0\n0!\n0&\n#10\n1!\n#20\n0!\n#30\n1!\n#35\n0!\n#60\n1!\n#70\n")

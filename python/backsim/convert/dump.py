@@ -173,6 +173,9 @@ def clock_of(dump: Dump, name: str, is_falling: bool) -> Clock:
         later = f"{name}{'_falls' * is_falling}={edges[1]},{edges[2] - edges[1]}" if len(edges) > 2 else "NAME=FIRST,PERIOD"
         raise _fault(dump, f"the clock {name} begins with {value}, and Verilog leaves open whether that is an edge: let it begin with "
                      f"the other value, or state its edges without this one: `from-json --clock {later}`")
+    if len(edges) > 2 and edges[0] == changes[0][0] and edges[1] - edges[0] != edges[2] - edges[1]:
+        # a dump that begins later tells the value there, which is no edge
+        del edges[0]
     if len(edges) < 2:
         raise _fault(dump, f"the clock {name} has {len(edges)} {word}, too few for a period")
     first, period = edges[0], edges[1] - edges[0]
