@@ -68,6 +68,18 @@ def test_x_in_the_dump_is_told_apart(compared) -> None:
     assert status == 1 and lines[0] == "19: y is x here, and 1 in the dump; chip.v:10; what it is made of does not differ; why y 19"
 
 
+def test_a_flip_flop_took_what_it_has_before_what_follows_from_it(write, program, capsys, monkeypatch) -> None:
+    # in the dump q takes d, which is its negation while a is 1; here it takes the negation of d, and so stays 0. At 9 both are right
+    monkeypatch.setenv("BACKSIM", program)
+    netlist = write("n", "INPUT(clk)\nINPUT(a)\nOUTPUT(q)\nq = DFF(e)\ne = NOT(d)\nd = XOR(q, a)\n")
+    timing = write("t", "version 2\nclock clk 10 20\ndefault 1\nclocked q clk\ninit q 0\n")
+    path = write("d.vcd", "$timescale 1 ns $end\n$scope module test $end\n$var wire 1 ! clk $end\n$var wire 1 % a $end\n$var reg 1 & q $end\n"
+                 "$var wire 1 ( d $end\n$upscope $end\n$enddefinitions $end\n#0\n0!\n1%\n0&\n1(\n#10\n1!\n1&\n0(\n#20\n0!\n#29\n")
+    assert main(["compare", str(netlist), str(timing), str(path), "test"]) == 1
+    assert capsys.readouterr().out.splitlines()[:2] == ["19: q is 0 here, and 1 in the dump; what it is made of does not differ; why q 19",
+                                                        "19: d is 1 here, and 0 in the dump; why d 19"]
+
+
 def test_every_time(compared) -> None:
     # gates take a unit each, which the dump does not have
     status, lines = compared(dump(), "--every-time", "--only", "q", "p")

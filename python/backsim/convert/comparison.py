@@ -195,23 +195,29 @@ def _mismatches(session: Session, dumped: Mapping[str, Changes], first: Mapping[
             asked = [batch.at(bit, time, MOST_BUDGET) for bit in bits]
         here = "".join(getattr(one.result(), "value", "?") for one in asked)
         there = "".join(value_at(dumped[bit], time) for bit in bits)
-        begins = all(first.get(source, time + 1) > time for source in _sources_of(session.netlist, name, dumped))
+        # what a flip-flop has was taken before, so that what differs since the same time follows from it
+        begins = all(first.get(source, time + 1) >= (time if is_before else time + 1)
+                     for source, is_before in _sources_of(session.netlist, name, dumped).items())
         found.append(Mismatch(time, f"{whole}[{places[0]}:{places[-1]}]" if is_bus else name, here, there, name, begins))
     return found
 
 
-def _sources_of(netlist: Netlist, name: str, dumped: Mapping[str, Changes]) -> set[str]:
-    """The signals of the dump that a signal is made of, without others of the dump between them."""
-    found: set[str] = set()
-    seen = {name}
-    left = [name]
+def _sources_of(netlist: Netlist, name: str, dumped: Mapping[str, Changes]) -> dict[str, bool]:
+    """The signals of the dump that a signal is made of, without others of the dump between them, each with whether a flip-flop is on every
+    way from it."""
+    found: dict[str, bool] = {}
+    seen = {(name, False)}
+    left = [(name, False)]
     while left:
-        gate = netlist.gates.get(left.pop())
+        own, is_before = left.pop()
+        gate = netlist.gates.get(own)
         for pin in gate.pins if gate else ():
-            if pin not in seen:
-                seen.add(pin)
-                if pin in dumped:
-                    found.add(pin)
-                else:
-                    left.append(pin)
+            way = pin, is_before or gate is not None and gate.kind is Kind.DFF
+            if pin == name or way in seen:
+                continue
+            seen.add(way)
+            if pin in dumped:
+                found[pin] = found.get(pin, True) and way[1]
+            else:
+                left.append(way)
     return found
