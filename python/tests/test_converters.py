@@ -122,6 +122,12 @@ def test_a_blif_file_at_fault_is_refused(text: str, cause: str, capsys, netlist,
     assert refused(capsys, "from-blif", netlist, path, vcd, "test.dut").startswith(f"{path}{cause}" if cause.startswith(":") else f"{path}: ")
 
 
+def test_a_clock_that_begins_with_its_edge_is_refused_without_an_option_that_from_blif_lacks(capsys, netlist, vcd, write) -> None:
+    # the dump begins with clk = 1
+    said = refused(capsys, "from-blif", netlist, write("b", BLIF.format(edge="re", first="1")), vcd, "test.dut", "--ticks", 10)
+    assert said.endswith("the clock clk begins with 1, and Verilog leaves open whether that is an edge: let it begin with the other value\n")
+
+
 def test_what_a_clock_has_where_a_dump_begins_later_is_no_edge(capsys, netlist, write) -> None:
     # the clock rises at 20, 40, 60 and so on, and the dump begins at 24, where it is 1
     blif = write("b", BLIF.format(edge="re", first="1"))

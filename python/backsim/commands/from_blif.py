@@ -36,7 +36,7 @@ def run(arguments: argparse.Namespace) -> int:
     if lost:
         raise FormatError(arguments.blif, None, f"it has no .latch for the flip-flops {', '.join(lost[:10])}" + " ..." * (len(lost) > 10))
     edges = {flop: Edge(latches[flop].clock, latches[flop].is_falling) for flop in flops}
-    made = timing_of(edges, {flop: latches[flop].initial for flop in flops}, lambda edge: clock_of(dump, edge.signal, edge.is_falling))
+    made = timing_of(edges, {flop: latches[flop].initial for flop in flops}, lambda edge: clock_of(dump, edge.signal, edge.is_falling, False))
     made.unit = dump.unit
     with whole_text(arguments.output) as stream:
         write_timing(made, stream)

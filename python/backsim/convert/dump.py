@@ -160,9 +160,10 @@ def stimulus_of(netlist: Netlist, dump: Dump) -> Stimulus:
     return stimulus
 
 
-def clock_of(dump: Dump, name: str, is_falling: bool) -> Clock:
+def clock_of(dump: Dump, name: str, is_falling: bool, may_be_given: bool = True) -> Clock:
     """The clock whose edges are the rises (or falls) of a signal. FormatError where it is not dumped, or its edges are not FIRST,
-    FIRST + PERIOD and so on up to the end of the dump, or its first value may be an edge."""
+    FIRST + PERIOD and so on up to the end of the dump, or its first value may be an edge; of such a one the option that states its edges is
+    told where it `may_be_given`."""
     bits = dump.bits((name,))
     value, word = ("0", "falls") if is_falling else ("1", "rises")
     if name not in bits:
@@ -171,8 +172,8 @@ def clock_of(dump: Dump, name: str, is_falling: bool) -> Clock:
     edges = [time for time, own in changes if own == value and time <= dump.last]
     if changes[:1] == [(0, value)]:
         later = f"{name}{'_falls' * is_falling}={edges[1]},{edges[2] - edges[1]}" if len(edges) > 2 else "NAME=FIRST,PERIOD"
-        raise _fault(dump, f"the clock {name} begins with {value}, and Verilog leaves open whether that is an edge: let it begin with "
-                     f"the other value, or state its edges without this one: `from-json --clock {later}`")
+        raise _fault(dump, f"the clock {name} begins with {value}, and Verilog leaves open whether that is an edge: let it begin with the other value"
+                     + f", or state its edges without this one: `from-json --clock {later}`" * may_be_given)
     if len(edges) > 2 and edges[0] == changes[0][0] and edges[1] - edges[0] != edges[2] - edges[1]:
         # a dump that begins later tells the value there, which is no edge
         del edges[0]
