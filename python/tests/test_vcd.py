@@ -62,6 +62,17 @@ def test_a_wrong_scope_lists_the_scopes(write) -> None:
         dump.signal("test.part", "conut")
 
 
+def test_of_many_scopes_those_near_the_top_and_like_it_are_listed(write) -> None:
+    inner = "".join(f"$scope module core{number} $end\n$scope module alu $end\n$upscope $end\n$upscope $end\n" for number in range(100))
+    dump = read_vcd(write("dump", f"$timescale 1 ns $end\n$scope module top $end\n$var wire 1 ! a $end\n{inner}$upscope $end\n$enddefinitions $end\n#0\n0!\n"))
+    with pytest.raises(FormatError) as refused:
+        dump.bits("top.core57.allu")
+    # a scope that is left out by one letter is the nearest
+    said = str(refused.value)
+    assert "there is no scope top.core57.allu; near it: top.core57.alu, " in said
+    assert said.endswith("; the scopes are: top, " + ", ".join(f"top.core{number}" for number in range(9)) + " ...")
+
+
 @pytest.mark.parametrize("value", "UHLW-")
 def test_values_that_are_none_of_four_are_refused_where_they_are_asked(write, value: str) -> None:
     path = write("dump", HEAD + BODY + f"#8\n{value}!\n")

@@ -23,6 +23,7 @@ Changes = tuple[tuple[int, str], ...]
 TIMESCALE = re.compile(r"(1|10|100)\s*(s|ms|us|ns|ps|fs)")
 _REFERENCE = re.compile(r"(.+?)(?:\[(-?[0-9]+)(?::(-?[0-9]+))?\])?")
 _FOUR = "01xz"
+_SHOWN = 10
 _NINE = "uwhl-"
 _BODY_COMMANDS = ("$dumpvars", "$dumpall", "$dumpon", "$dumpoff", "$end")
 
@@ -71,8 +72,12 @@ class Vcd:
     def in_scope(self, scope: str) -> list[Variable]:
         """The variables of a scope and of those below it. FormatError, with the list of scopes, where there is no such scope."""
         if scope not in self.scopes:
-            known = ", ".join(self.scopes) or "none"
-            raise FormatError(self.path, None, f"there is no scope {scope}; the scopes are: {known}")
+            shown, like = self.scopes, list[str]()
+            if len(shown) > _SHOWN:
+                # those next to the top, and those that are like it
+                shown, like = sorted(shown, key=lambda own: own.count("."))[:_SHOWN], get_close_matches(scope, shown, 3)
+            raise FormatError(self.path, None, f"there is no scope {scope}" + f"; near it: {', '.join(like)}" * bool(like)
+                              + f"; the scopes are: {', '.join(shown) or 'none'}" + " ..." * (len(shown) < len(self.scopes)))
         return [variable for variable in self.variables if f"{variable.path}.".startswith(f"{scope}.")]
 
     def signal(self, scope: str, name: str) -> Changes:
