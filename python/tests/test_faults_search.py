@@ -322,6 +322,15 @@ def test_bad_words_are_said_in_one_line(words: list[str], cause: str, tools, pat
     assert not any((tmp_path / name).exists() for name in ("table", "folder", "list", "rows"))
 
 
+@pytest.mark.parametrize("words, cause", [
+    (["--prove-left", "nowhere/kept"], "nowhere/kept: it can't be written: No such file or directory"),
+    (["--prove-left", "one", "--left", "one"], "one: two of the files that the command is told to write are this one")])
+def test_a_file_of_proofs_that_can_not_be_is_said_before_the_work(words: list[str], cause: str, tools, patterns, tmp_path) -> None:
+    run = tools("faults", *C17, patterns, "--period", 10, *words, cwd=tmp_path, env={"BACKSIM": "/bin/false"})
+    assert (run.returncode, run.stdout.decode(), run.stderr.decode()) == (2, "", f"{cause}\n")
+    assert [path.name for path in tmp_path.iterdir()] == [Path(patterns).name]
+
+
 def test_patterns_of_another_number_of_inputs_are_refused(tools, write) -> None:
     path = write("p", "0101\n")
     run = faults(tools, *C17, path, "--period", 10)

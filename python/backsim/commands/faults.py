@@ -77,7 +77,7 @@ def run(arguments: argparse.Namespace) -> int:
         with whole_text(arguments.write_list) as stream:
             write_faults((own.shown_as for own in classes), looks.lines, stream)
         return 0
-    check_places(arguments.shown, arguments.left, arguments.csv, arguments.dictionary)
+    check_places(arguments.shown, arguments.left, arguments.csv, arguments.dictionary, arguments.prove_left)
     if not looks.circuit.netlist.outputs:
         raise UsageError(f"{arguments.netlist}: the netlist has no OUTPUT, so nothing shows a fault")
     if (arguments.write or arguments.read) and any(own.asked.is_transition for own in classes):
