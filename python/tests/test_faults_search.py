@@ -310,6 +310,8 @@ def test_an_interrupt_while_processes_simulate_leaves_what_is_known(number, writ
 
 
 @pytest.mark.parametrize("words, cause", [
+    (["--list", "empty", "--stems"], "--list and --stems do not go together"),
+    (["--list", "empty", "--transition"], "--list and --transition do not go together"),
     (["--drop", "0"], "from 1 to"), (["--transition", "--read", "folder"], "--write and --read are for stuck-at faults alone"),
     (["--write", "folder"], "--write and --csv do not go together"), (["--write-list", "list"], "--write-list and --csv do not go together"),
     (["--read", "folder", "--dictionary", "rows"], "--read and --dictionary do not go together"),

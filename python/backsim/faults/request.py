@@ -160,8 +160,11 @@ def _times_in(word: str, unit: Unit | None, horizon: int) -> range:
 
 def classes_of(arguments: argparse.Namespace, lines: Lines, is_transition: bool = False) -> list[FaultClass]:
     """The faults in question. Those of lines that are slow are not collapsed: the tables of gates make no two of them one, since the
-    values of the pattern before count too. UsageError where slow lines are asked for in a circuit with flip-flops, which would show
-    what a slow line makes of them only by later patterns."""
+    values of the pattern before count too. WordsError where a list is given and an option that says which faults there are. UsageError where
+    slow lines are asked for in a circuit with flip-flops, which would show what a slow line makes of them only by later patterns."""
+    for name, given in (("stems", arguments.stems), ("transition", is_transition)):
+        if arguments.list and given:
+            raise WordsError(f"--list and --{name} do not go together: the list says which faults are asked for")
     faults = read_faults(arguments.list, lines) if arguments.list else lines.faults(not arguments.stems, TRANSITIONS if is_transition else VALUES)
     slow = [fault for fault in faults if fault.is_transition]
     if slow and lines.netlist.flops():
