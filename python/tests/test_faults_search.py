@@ -309,6 +309,41 @@ def test_an_interrupt_while_processes_simulate_leaves_what_is_known(number, writ
     assert {row["confirmed"] for row in rows} == {"no"}
 
 
+def test_what_was_not_simulated_yet_is_told_apart(patterns, monkeypatch, capsys) -> None:
+    """The one fault that was found is told, and nothing is said of the 21 other classes of c17."""
+    monkeypatch.setenv("BACKSIM", STAND_IN)
+    take = faults_command._Search._take
+
+    def once(self: object, detection: object) -> None:
+        take(self, detection)
+        raise KeyboardInterrupt
+
+    monkeypatch.setattr(faults_command._Search, "_take", once)
+    assert main(["faults", *C17, str(patterns), "--period", "10", "--jobs", "1"]) == 130
+    table = capsys.readouterr().out.splitlines()
+    assert table[0].startswith("partial: ") and table[2:4] == ["not shown:", "collapsed: shown 1 of 22 faults, 4.54 %"]
+    assert table[5:] == ["confirmed by the program: 0 of 1 that are shown", "nothing is known yet of 21"]
+
+
+@pytest.mark.parametrize("netlist, told", [
+    # a cycle, so each of the 8 classes of 12 faults is asked for, and none was when the interrupt came
+    ("INPUT(s)\nINPUT(r)\nOUTPUT(q)\np = NOR(s, q)\nq = NOR(r, p)\n", "nothing is known yet of 8"),
+    # a look comes 2 after a change, and the path takes 4: so the program confirms none of both classes that simulation shows
+    (CHAIN, "nothing is known yet of 2")])
+def test_what_was_not_asked_yet_is_told_apart(netlist: str, told: str, write, monkeypatch, capsys, program) -> None:
+    def interrupted(*_: object) -> None:
+        raise KeyboardInterrupt
+
+    monkeypatch.setattr(faults_command, "solve_all", interrupted)
+    monkeypatch.setenv("BACKSIM", program)
+    letters = netlist.count("INPUT")
+    words = ["faults", write("n", netlist), write("t", ""), write("p", "".join(f"{letter * letters}\n" for letter in "01")), "--period", 3]
+    assert main([*map(str, words), "--jobs", "1"]) == 130
+    table = capsys.readouterr().out.splitlines()
+    assert table[0].startswith("partial: ") and table[1] == "not shown:" and table[-1] == told
+    assert not any(line.startswith(("simulation alone", "asked of the program")) for line in table)
+
+
 @pytest.mark.parametrize("words, cause", [
     (["--list", "empty", "--stems"], "--list and --stems do not go together"),
     (["--list", "empty", "--transition"], "--list and --transition do not go together"),

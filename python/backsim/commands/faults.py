@@ -122,12 +122,15 @@ class _Search:
         self._outcomes = {own: Outcome() for own in plan.classes}
         self._weights = weights(looks.circuit.netlist)
         self._is_simulated = True
+        # the classes of which nothing is known yet
+        self._unknown = {own for own in plan.classes if plan.reached(own.asked.site)}
         self.dictionary = Dictionary(len(plan.classes)) if arguments.dictionary else None
         self.unanswered: list[str] = []
         self.unconfirmed = 0
 
     def coverage(self) -> Coverage:
-        return Coverage(self._plan, self._looks.lines, self._outcomes, self._arguments.drop or 1, self._is_simulated)
+        return Coverage(self._plan, self._looks.lines, self._outcomes, self._arguments.drop or 1, self._is_simulated,
+                        frozenset(self._unknown))
 
     def run(self) -> None:
         finder = self._finder()
@@ -137,6 +140,7 @@ class _Search:
                 return
             with Bar(finder.total, "simulated", has_lines=True) as bar:
                 finder.run(self._take, bar.add)
+            self._unknown.clear()
             if finder.unknown_flops:
                 flops = len(self._looks.circuit.netlist.flops())
                 say(f"{finder.unknown_flops} of {flops} flip-flops are still x at the last look, and x shows no fault")
@@ -157,7 +161,9 @@ class _Search:
             return None
 
     def _take(self, detection: Detection) -> None:
-        outcome = self._outcomes[self._plan.classes[detection.fault]]
+        own = self._plan.classes[detection.fault]
+        outcome = self._outcomes[own]
+        self._unknown.discard(own)
         outcome.count += 1
         if outcome.time is None:
             outcome.time = self._plan.times[detection.look]
@@ -179,11 +185,17 @@ class _Search:
     def _ask(self, classes: Sequence[FaultClass], files: Sequence[type_of_path]) -> None:
         """Asks for classes at one time after another, without simulation."""
         self._is_simulated = len(classes) < len(self._outcomes)
+        self._unknown.update(own for own in classes if self._outcomes[own].is_shown)
         for own in classes:
             self._outcomes[own] = Outcome()
+
+        def take(own: FaultClass, outcome: Outcome) -> None:
+            self._outcomes[own] = outcome
+            self._unknown.discard(own)
+
         forecast = Forecast(self._jobs)
         with Bar(len(classes) * len(self._plan.times), "asked", left=forecast.said, has_lines=True) as bar:
-            good = solve_all(self._plan, files, self._jobs, self._outcomes.__setitem__, classes, forecast, self._arguments.program, bar.add)
+            good = solve_all(self._plan, files, self._jobs, take, classes, forecast, self._arguments.program, bar.add)
         self.unanswered = good.unanswered
 
     def _prove(self, kept: Kept, files: Sequence[type_of_path]) -> None:

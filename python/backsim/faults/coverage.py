@@ -16,13 +16,15 @@ from .plan import Outcome, Plan
 @dataclass(frozen=True, slots=True)
 class Coverage:
     """The classes of a plan and what came of each. `least` is how many times must show a fault, 1 unless it is to be shown by
-    several; `is_simulated` is false where all was asked of the program."""
+    several; `is_simulated` is false where all was asked of the program. Of the classes of `unknown` nothing was known yet when the command
+    was interrupted."""
 
     plan: Plan
     lines: Lines
     outcomes: dict[FaultClass, Outcome]
     least: int = 1
     is_simulated: bool = True
+    unknown: frozenset[FaultClass] = frozenset()
 
     def name(self, own: FaultClass) -> str:
         """The fault that stands for a class."""
@@ -52,7 +54,7 @@ class Coverage:
         hidden = self.unreached()
         if hidden:
             yield f"no way to an output: {', '.join(map(self.name, hidden))}"
-        left = [own for own in self.classes(False) if own not in hidden]
+        left = [own for own in self.classes(False) if own not in hidden and own not in self.unknown]
         yield f"not shown: {', '.join(map(self.name, left))}".rstrip()
         yield from self._counts()
         yield from self._grounds()
@@ -71,7 +73,7 @@ class Coverage:
 
     def _grounds(self) -> Iterator[str]:
         """What the program itself said, and what rests on simulation alone."""
-        shown, left = self.classes(True), self.classes(False)
+        shown, left = self.classes(True), [own for own in self.classes(False) if own not in self.unknown]
         confirmed = sum(self.outcomes[own].is_confirmed for own in shown)
         yield f"confirmed by the program: {confirmed} of {len(shown)} that are shown"
         asked = sum(self.outcomes[own].is_confirmed for own in left)
@@ -79,6 +81,8 @@ class Coverage:
             yield f"simulation alone says of {len(left) - asked} that no time shows them (--prove-left FILE asks the program)"
         elif left:
             yield f"asked of the program at all times: the {len(left)} that none shows"
+        if self.unknown:
+            yield f"nothing is known yet of {len(self.unknown)}"
 
     def write_csv(self, stream: TextIO, is_partial: bool = False) -> None:
         """A row for each fault: the fault, the one that stands for its class, the first time that shows it and an output that does,
