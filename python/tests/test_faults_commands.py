@@ -124,6 +124,20 @@ def test_a_search_tells_what_it_has_tried(write, tmp_path, monkeypatch, capsys) 
     assert tried and all(tried) and last == f"{len((tmp_path / 'p').read_text().split())} patterns of 200000 show 5 of 8 faults, 62.50 %"
 
 
+def test_a_sequence_ends_by_the_last_time_that_there_is(tools, write) -> None:
+    netlist = write("n", "INPUT(a)\nOUTPUT(q)\nq = DFF(a)\n")
+    # 25 patterns of 40000 end by 1000000, and both values of a show all 4 faults, since a flip-flop makes none one
+    run = tools("patterns", netlist, write("t", "clock 20000 40000\n"), "--period", 40000)
+    assert run.returncode == 0 and 2 <= run.stdout.count(b"\n") <= 25
+    assert run.stderr.decode().splitlines()[-1].endswith(" of 25 show 4 of 4 faults, 100.00 %")
+    # one ends by then, and its value of a shows 2
+    run = tools("patterns", netlist, write("t", "clock 700000 400000\n"), "--period", 400000, "--first", 600000)
+    assert run.returncode == 1 and run.stdout in (b"0\n", b"1\n")
+    assert run.stderr.decode().splitlines()[-2:] == [
+        "1 patterns of 1 show 2 of 4 faults, 50.00 %",
+        "no further pattern ends by 1000000, the last time that there is, so none was tried: take a shorter period"]
+
+
 @pytest.mark.parametrize("number", [signal.SIGINT, signal.SIGTERM])
 def test_patterns_of_an_interrupted_search_are_kept_and_marked(number, tools, tmp_path) -> None:
     # what no pattern can show keeps the search going
@@ -148,6 +162,7 @@ def test_patterns_of_an_interrupted_search_are_kept_and_marked(number, tools, tm
 
 
 @pytest.mark.parametrize("words, cause", [
+    (["patterns", *S27, "--period", "2", "--first", "1000000"], "no pattern of --period 2 from --first 1000000 on ends by 1000000"),
     (["patterns", *S27], "with flip-flops --period P is wanted"), (["patterns", *C17, "--first", "5"], "c17.bench: without flip-flops patterns have no times"),
     (["patterns", *C17, "--period", "5"], "so --period and --first would do nothing"), (["patterns", *C17, "--coverage", "101"], "from 1 to 100"),
     (["compact", *S27, "s27.p", "--period", "20"], "the circuit has flip-flops"),

@@ -10,9 +10,9 @@ from ..command_line.outputs import check_places
 from ..command_line.partial import PARTIAL
 from ..convert.build import constant_value
 from ..convert.output import add_output, say, whole_text
-from ..errors import FormatError, UsageError
+from ..errors import FormatError, UsageError, WordsError
 from ..faults.coverage import percent
-from ..faults.generating import Search, search_combinational, search_sequential
+from ..faults.generating import Search, room_for, search_combinational, search_sequential
 from ..faults.model import Lines
 from ..faults.request import add_circuit, add_faults, add_jobs, add_period, jobs_of, stuck_classes_of, take_period
 from ..faults.stopping import stoppable
@@ -20,6 +20,7 @@ from ..formats.circuit import Circuit
 from ..formats.netlist import read_netlist
 from ..formats.stimulus import Stimulus
 from ..formats.timing import read_timing
+from ..limits import MOST_TIME
 from ..main import INTERRUPTED
 
 HELP = "makes random patterns and keeps those that show further stuck-at faults"
@@ -57,6 +58,8 @@ def run(arguments: argparse.Namespace) -> int:
         raise UsageError(f"{arguments.netlist}: with flip-flops --period P is wanted, the time from one pattern to the next")
     if not netlist.flops() and (arguments.period is not None or arguments.first):
         raise UsageError(f"{arguments.netlist}: without flip-flops patterns have no times, so --period and --first would do nothing")
+    if arguments.period is not None and not room_for(arguments.first, arguments.period):
+        raise WordsError(f"no pattern of --period {arguments.period} from --first {arguments.first} on ends by {MOST_TIME}, the last time that there is")
     classes = stuck_classes_of(arguments, Lines(netlist))
     inputs = tuple(name for name in netlist.inputs if constant_value(name) is None)
     if not inputs:
@@ -75,6 +78,8 @@ def run(arguments: argparse.Namespace) -> int:
     say(f"{len(search.kept)} patterns of {search.tried} show {search.shown} of {len(classes)} faults, {percent(search.shown, len(classes))}")
     if is_partial:
         return INTERRUPTED
+    if search.goes_on():
+        say(f"no further pattern ends by {MOST_TIME}, the last time that there is, so none was tried: take a shorter period")
     return 0 if search.shown >= search.wanted else 1
 
 

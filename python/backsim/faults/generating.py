@@ -81,14 +81,15 @@ def search_combinational(search: Search, circuit: Circuit, jobs: int, told: Call
 
 
 def search_sequential(search: Search, circuit: Circuit, period: int, first: int, told: Callable[[], None]) -> None:
-    """Looks for a sequence of patterns of a circuit with flip-flops, the first at the time `first`. A part of the sequence that shows
-    nothing new is taken back, and what follows the last pattern of a part that does. ValueError where gates make a cycle."""
+    """Looks for a sequence of patterns of a circuit with flip-flops, the first at the time `first`, as long as one ends by the last time
+    that there is. A part of the sequence that shows nothing new is taken back, and what follows the last pattern of a part that does.
+    ValueError where gates make a cycle."""
     network = Network(circuit.netlist)
     initials = [circuit.timing.initial(network.names[number]) for number, _ in network.flops]
     simulation = Simulation(network, initials, [own.asked for own in search.classes], 1)
     begun = 0
-    while search.goes_on() and first + _PART * period <= MOST_TIME:
-        words = search.words(_PART)
+    while search.goes_on() and (room := room_for(first, period)):
+        words = search.words(min(_PART, room))
         tried = simulation.copied()
         shown = _shown(tried, network, circuit, search.inputs, words, period, first, begun)
         useful = max((number for number, count in enumerate(shown, 1) if count), default=0)
@@ -101,6 +102,11 @@ def search_sequential(search: Search, circuit: Circuit, period: int, first: int,
             first += useful * period
             begun = first
         told()
+
+
+def room_for(first: int, period: int) -> int:
+    """How many patterns end by the last time that there is."""
+    return (MOST_TIME + 1 - first) // period
 
 
 def _shown(simulation: Simulation, network: Network, circuit: Circuit, inputs: tuple[str, ...], words: Sequence[str], period: int, first: int,
