@@ -207,10 +207,22 @@ def test_bad_lines_have_their_numbers(example, program: str) -> None:
     (lambda session: session.at("22", -1), "is no time"), (lambda session: session.at("22", 1.5), "is no time"),
     (lambda session: session.wave("22", 0, 5, 500_001), "is no budget"), (lambda session: session.stuck("10", "x", "22", 0, 5), "stuck at"),
     (lambda session: session.trim(70_000), "is no number of cells"), (lambda session: session.vcd("a b"), "can name this file"),
-    (lambda session: session.first("22", 2, 0, 5), "is no value")])
+    (lambda session: session.first("22", 2, 0, 5), "is no value"), (lambda session: session.at("n" * 4100, 3), "4,100 letters"),
+    (lambda session: session.stuck("n" * 4100, 0, "22", 0, 5), "4,100 letters"), (lambda session: session.vcd("/" * 4093), "can name this file")])
 def test_what_no_line_can_say(example, ask, cause: str) -> None:
-    with Session(*example("c17"), program=STAND_IN) as session, pytest.raises(UsageError, match=cause):
-        ask(session)
+    with Session(*example("c17"), program=STAND_IN) as session:
+        with pytest.raises(UsageError, match=cause):
+            ask(session)
+        # the session goes on
+        assert session.at("22", 3).value == "0"
+
+
+def test_the_longest_names_are_answered(example, program: str) -> None:
+    longest = "n" * 2016
+    with Session(*example("c17"), program=program) as session:
+        assert session.stuck(longest, 0, longest, 4_294_967_294, 4_294_967_294, 500_000) == Unknown(longest)
+        with pytest.raises(UsageError, match="2,017 letters"):
+            session.at(f"{longest}n", 3)
 
 
 def test_a_refused_netlist_is_told_in_words(example, program: str, write) -> None:

@@ -13,7 +13,7 @@ from ..errors import UsageError, type_of_path
 from ..formats.script import AtLine, FirstLine, Line, StatsLine, StuckLine, Trim, VcdLine, WaveLine, WhyLine
 from ..formats.text import is_name
 from ..formats.units import Moment
-from ..limits import MOST_ASKED_TIME, MOST_BUDGET, MOST_CELLS
+from ..limits import LINE_LIMIT, MOST_ASKED_TIME, MOST_BUDGET, MOST_CELLS
 from ..values import Answer, At, Budget, Dump, First, Past, Proof, Stats, Stuck, Trimmed, Unknown, Wave
 from .checks import whole_number
 
@@ -21,6 +21,8 @@ T = TypeVar("T")
 C = TypeVar("C", covariant=True)
 # names come again and again
 _is_name = lru_cache(1 << 16)(is_name)
+# so many bytes of two names and the other words of a line are no more than a line may have
+_MOST_NAME = (LINE_LIMIT - 64) // 2
 # questions for the bits of a bus, one after another, that cost less than the waves of all bits in a window of some length
 _MOST_STEPS = 256
 
@@ -157,6 +159,7 @@ def stuck(known: Names, site: str, value: str | int, name: str, start: Moment, s
     held = str(value)
     if not isinstance(site, str) or not is_name(site) or held not in ("0", "1"):
         raise UsageError(f"a signal is stuck at 0 or 1, and not {site!r} at {value!r}")
+    _check_length(site)
     lines = tuple(StuckLine(site, held, bit, begin, end, budget) for bit in bits)
     if bits == (name,):
         return Question(lines, _only)
@@ -168,10 +171,16 @@ def _checked(known: Names, name: str, times: tuple[Moment, ...], budget: int | N
     units = [known.time(time) for time in times]
     if not isinstance(name, str) or not _is_name(name):
         raise UsageError(f"{name!r} is no name: it may have no blank and none of (, ), comma, = and #")
+    _check_length(name)
     whole = [whole_number(time, "time", 0, MOST_ASKED_TIME) for time in units]
     if budget is not None:
         budget = whole_number(budget, "budget", 0, MOST_BUDGET)
     return known.bits(name) if name[-1] == "]" else (name,), whole, budget
+
+
+def _check_length(name: str) -> None:
+    if len(name) > _MOST_NAME:
+        raise UsageError(f"`{name[:40]}..` has {len(name):,} letters, more than the {_MOST_NAME:,} that a line has room for")
 
 
 class SessionQuestions(Names):
@@ -243,7 +252,7 @@ class SessionQuestions(Names):
         """Writes the waves of the last batch to a file, as a waveform dump. At most three are written in a session; the name may have
         no blank and none of `(`, `)`, `,`, `=` and `#`."""
         name = str(file)
-        if not is_name(name):
+        if not is_name(name) or len(f"vcd {name}") > LINE_LIMIT:
             raise UsageError(f"{name}: no line of a script can name this file")
         return self._one(VcdLine(name), Dump)
 
