@@ -157,6 +157,7 @@ exec sleep 1000
 @pytest.mark.parametrize("number", [signal.SIGINT, signal.SIGTERM, signal.SIGHUP])
 @pytest.mark.parametrize("words", [["run", *C17, C17_SCRIPT, "--program", "slow"], ["run", *C17, C17_SCRIPT, "--program", "slow", "--jobs", "3"],
                                    ["faults", *C17[:2], "PATTERNS", "--period", "5", "--program", "slow", "--jobs", "3", "--csv", "out"],
+                                   ["diagnose", *C17[:2], "PATTERNS", "FAILURES", "--period", "5", "--program", "slow"],
                                    ["from-vcd", C17[0], "fifo", "top", "-o", "out"]])
 def test_what_ends_a_command_leaves_no_process_and_no_folder(words: list[str], number: signal.Signals, write, tmp_path) -> None:
     folder = tmp_path / "temporary"

@@ -13,8 +13,8 @@ _STOPS = (signal.SIGINT, signal.SIGTERM)
 
 @contextmanager
 def stoppable() -> Iterator[None]:
-    """Has the first of SIGINT and SIGTERM raise KeyboardInterrupt in the block, and passes over those that follow, so that what is known
-    is written whole. A signal that this process ignores stays ignored. Elsewhere than in the main thread nothing is changed."""
+    """Has the first of SIGINT and SIGTERM raise KeyboardInterrupt, with its number, in the block, and passes over those that follow, so that
+    what is known is written whole. A signal that this process ignores stays ignored. Elsewhere than in the main thread nothing is changed."""
     if threading.current_thread() is not threading.main_thread():
         yield
         return
@@ -24,7 +24,7 @@ def stoppable() -> Iterator[None]:
     def stop(number: int, frame: FrameType | None) -> NoReturn:
         for one in taken:
             signal.signal(one, signal.SIG_IGN)
-        raise KeyboardInterrupt
+        raise KeyboardInterrupt(number)
 
     for number in taken:
         signal.signal(number, stop)
