@@ -28,7 +28,7 @@ def test_a_bus_with_a_gap_is_told() -> None:
 
 
 @pytest.mark.parametrize("name, like", [("part.coun", ("part.count[2:0]",)), ("part.count[7]", ("part.count[2]", "part.count[1]", "part.count[0]")),
-                                        ("gaps", ("gap[0]",)), ("wid", ("wide",)), ("none", ())])
+                                        ("gaps", ("gap[0]",)), ("mem[1]", ("mem[1][4:3]",)), ("wid", ("wide",)), ("none", ())])
 def test_a_bus_is_named_once_among_what_is_like_a_name(name: str, like: tuple[str, ...]) -> None:
     assert nearest(name, NAMES) == like
 

@@ -72,7 +72,7 @@ def full_name(name: str, names: Collection[str], ascending: Collection[str] = ()
 def nearest(name: str, names: Collection[str], known: Collection[str] = (), ascending: Collection[str] = ()) -> tuple[str, ...]:
     """At most three of the names that are like the name, the most alike first. Where the name is that of no bit, a bus stands in place of
     its bits; these are of `known`, all names, or else of the names."""
-    if name.endswith("]"):
+    if name.endswith("]") and not _places(name, known or names):
         return tuple(get_close_matches(name, names, _NEAREST))
     stems = dict.fromkeys(_LAST_PLACE.sub("", own) for own in names)
     every = frozenset(known or names)
