@@ -295,6 +295,18 @@ def test_large_pages_unless_the_user_says_otherwise(own: str | None, program: st
     assert (tmp_path / "noted").read_text() == f"{own or 'glibc.malloc.hugetlb=1'}\n"
 
 
+@pytest.mark.parametrize("place, given, cause", [
+    (0, b"c17.bench", "the netlist is of the type bytes: a path or a Netlist is wanted"),
+    (1, 3, "the timing is of the type int: a path or a Timing is wanted"),
+    (2, None, "the stimulus is of the type NoneType: a path or a Stimulus is wanted"), (0, "a\0b", "'a\\x00b': embedded null byte")])
+def test_what_is_no_file_of_a_circuit(place: int, given: object, cause: str, example) -> None:
+    files: list[object] = list(example("c17"))
+    files[place] = given
+    with pytest.raises(UsageError) as told:
+        Session(*files, program=STAND_IN)
+    assert str(told.value) == cause
+
+
 def test_a_session_that_was_closed(example) -> None:
     session = Session(*example("c17"), program=STAND_IN)
     session.close()

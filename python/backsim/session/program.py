@@ -139,7 +139,9 @@ class Conversation:
             self._process = subprocess.Popen(words, bufsize=0, stdin=subprocess.PIPE, stdout=subprocess.PIPE, stderr=subprocess.PIPE,
                                              env={**LARGE_PAGES, **os.environ})
         except (OSError, ValueError) as error:
-            raise UsageError(f"{words[0]}: {reason_of(error)}") from None
+            # of a file's name with a NUL byte no word is made
+            at_fault = next((repr(word) for word in words if "\0" in word), words[0])
+            raise UsageError(f"{at_fault}: {reason_of(error)}") from None
         assert self._process.stdin and self._process.stdout and self._process.stderr
         self._pipes = self._process.stdin, self._process.stdout, self._process.stderr
         self._in, self._out, self._err = (pipe.fileno() for pipe in self._pipes)

@@ -79,6 +79,9 @@ class Session(SessionQuestions):
                  journal: type_of_path | None = None, workers: int | None = None, shards: int | None = None,
                  cells: int | None = MOST_CELLS, program: type_of_path | None = None) -> None:
         options = Options(workers, shards, cells)
+        for given, kind, name in ((netlist, Netlist, "netlist"), (timing, Timing, "timing"), (stimulus, Stimulus, "stimulus")):
+            if not isinstance(given, (str, os.PathLike, kind)):
+                raise UsageError(f"the {name} is of the type {type(given).__name__}: a path or a {kind.__name__} is wanted")
         self._scratch = Scratch()
         self._exchange: Exchange | None = None
         self._netlist: Netlist | None = netlist if isinstance(netlist, Netlist) else None
