@@ -214,3 +214,24 @@ def test_control_characters_are_spelled() -> None:
 def test_an_option_that_would_do_nothing_is_refused(words: list[str], cause: str, tools, tmp_path) -> None:
     run = tools(*words, cwd=tmp_path)
     assert (run.returncode, run.stdout, run.stderr.decode()) == (2, b"", f"backsim-tools {words[0]}: {cause}\n")
+
+
+@pytest.mark.parametrize("words", [
+    "faults n t p --period 5 --csv n", "faults n t p --period 5 --left t", "faults n t p --period 5 --prove-left p", "faults n t p --period 5 --list l --csv l",
+    "faults n t p --period 5 --write-list n", "patterns n t -o n", "compact n t p --period 5 -o t", "from-patterns n p --period 5 -o p",
+    "from-vcd n v top -o v", "from-vcd n v top --timing t --window t", "compare n t v top --stimulus n", "to-vcd r -o r", "to-verilog n t s script -o script",
+    "why n t s 22 5 -o s.svg", "draw --replies r.svg -o r.svg"])
+def test_no_file_that_is_read_is_written_over(words: str, tmp_path) -> None:
+    files = {"n": C17[0], "t": C17[1], "s": C17[2], "r": C17_REPLIES, "r.svg": C17_REPLIES, "script": C17_SCRIPT}
+    for name, file in files.items():
+        (tmp_path / name).write_bytes(Path(file).read_bytes())
+    for name, text in {"p": PATTERNS, "v": VCD, "l": "1 /0\n"}.items():
+        (tmp_path / name).write_text(text)
+    # a link to a file is that file
+    (tmp_path / "s.svg").symlink_to("s")
+    before = {file.name: file.read_bytes() for file in tmp_path.iterdir()}
+    run = subprocess.run([sys.executable, "-m", "backsim", *words.split()], cwd=tmp_path, env=os.environ | {"PYTHONPATH": str(TOP / "python")},
+                         capture_output=True, text=True, timeout=PATIENCE)
+    assert (run.returncode, run.stdout) == (2, "")
+    assert run.stderr == f"{words.split()[-1]}: the command reads this file, so it is not written over\n"
+    assert {file.name: file.read_bytes() for file in tmp_path.iterdir()} == before

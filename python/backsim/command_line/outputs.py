@@ -8,7 +8,7 @@ import errno
 import os
 import shutil
 import stat
-from collections.abc import Iterator
+from collections.abc import Iterable, Iterator
 from contextlib import contextmanager
 from pathlib import Path
 
@@ -31,16 +31,19 @@ def write_whole(path: type_of_path, data: bytes) -> None:
         raise FormatError(path, None, f"it can't be written: {reason_of(error)}") from None
 
 
-def check_places(*paths: type_of_path | None) -> None:
-    """FormatError where one of these files can't be written, or two are one file, for a command that works long before it writes, or that
-    writes several. Nothing is left there."""
+def check_places(*paths: type_of_path | None, read: Iterable[type_of_path | None] = ()) -> None:
+    """FormatError where one of these files can't be written, is one of those that the command reads, or is another of them, before a
+    command works. Nothing is left there."""
     places: set[str] = set()
+    sources = {_identity(path) for path in read if path is not None} - {None}
     for path in paths:
         if path is None:
             continue
         try:
             mode = _mode_of(path)
             if mode is None or stat.S_ISREG(mode):
+                if _identity(path) in sources:
+                    raise FormatError(path, None, "the command reads this file, so it is not written over")
                 place = os.path.realpath(path)
                 if place in places:
                     raise FormatError(path, None, "two of the files that the command is told to write are this one")
@@ -66,6 +69,14 @@ def _check_place(place: str, mode: int | None) -> None:
 def _check_mode(place: str, mode: int | None) -> None:
     if mode is not None and not os.access(place, os.W_OK):
         raise PermissionError(0, "the file may not be written")
+
+
+def _identity(path: type_of_path) -> tuple[int, int] | None:
+    try:
+        known = os.stat(path)
+    except (OSError, ValueError):
+        return None
+    return known.st_dev, known.st_ino
 
 
 def _mode_of(path: type_of_path) -> int | None:

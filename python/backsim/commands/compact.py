@@ -33,7 +33,7 @@ def run(arguments: argparse.Namespace) -> int:
     if patterns is None or arguments.times:
         raise WordsError("patterns and the usual looks are wanted: no stimulus file, and no --times")
     classes = stuck_classes_of(arguments, looks.lines)
-    check_places(arguments.output)
+    check_places(arguments.output, read=(arguments.netlist, arguments.timing))
     finder = finder_for(arguments, looks, classes, 0)
     assert isinstance(finder, CombinationalFinder)
     with Bar(finder.total, "simulated", has_lines=True) as bar:

@@ -46,7 +46,7 @@ def add_arguments(parser: argparse.ArgumentParser) -> None:
 
 
 def run(arguments: argparse.Namespace) -> int:
-    check_places(arguments.stimulus, arguments.window)
+    check_places(arguments.stimulus, arguments.window, read=(arguments.netlist, arguments.timing, arguments.vcd))
     netlist = read_netlist(arguments.netlist)
     timing = read_timing(arguments.timing, netlist)
     wanted = _wanted(arguments.only, netlist, arguments.netlist)

@@ -5,6 +5,7 @@ import argparse
 from pathlib import Path
 
 from ..command_line.arguments import moment, unit_of_session
+from ..command_line.outputs import check_places
 from ..errors import WordsError
 from ..formats.netlist import ascending_in
 from ..formats.stimulus import read_horizon
@@ -51,6 +52,7 @@ def add_arguments(parser: argparse.ArgumentParser) -> None:
 
 def run(arguments: argparse.Namespace) -> int:
     form = form_of(arguments.output, FORMS)
+    check_places(arguments.output, read=(arguments.replies, arguments.vcd))
     if arguments.scope and not arguments.vcd:
         raise WordsError("--scope goes with --vcd")
     names = arguments.words

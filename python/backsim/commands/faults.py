@@ -73,11 +73,15 @@ def run(arguments: argparse.Namespace) -> int:
     _check_options(arguments)
     looks = read_looks(arguments)
     classes = classes_of(arguments, looks.lines, arguments.transition)
+    circuit = (arguments.netlist, arguments.timing, arguments.patterns)
     if arguments.write_list:
+        check_places(arguments.write_list, read=circuit)
         with whole_text(arguments.write_list) as stream:
             write_faults((own.shown_as for own in classes), looks.lines, stream)
         return 0
-    check_places(arguments.shown, arguments.left, arguments.csv, arguments.dictionary, arguments.prove_left)
+    # a list may take the place of the one that was read
+    check_places(arguments.csv, arguments.dictionary, arguments.prove_left, read=(arguments.list,))
+    check_places(arguments.shown, arguments.left, arguments.csv, arguments.dictionary, arguments.prove_left, read=circuit)
     if not looks.circuit.netlist.outputs:
         raise UsageError(f"{arguments.netlist}: the netlist has no OUTPUT, so nothing shows a fault")
     if (arguments.write or arguments.read) and any(own.asked.is_transition for own in classes):

@@ -4,6 +4,7 @@ from __future__ import annotations
 import argparse
 from pathlib import Path
 
+from ..command_line.outputs import check_places
 from ..convert.blif import read_latches
 from ..convert.clocks import Edge, timing_of
 from ..convert.dump import clock_of, read_dump
@@ -27,6 +28,7 @@ def add_arguments(parser: argparse.ArgumentParser) -> None:
 
 
 def run(arguments: argparse.Namespace) -> int:
+    check_places(arguments.output, read=(arguments.netlist, arguments.blif, arguments.vcd))
     netlist = read_netlist(arguments.netlist)
     latches = read_latches(arguments.blif)
     clocks = {latch.clock for latch in latches.values()}

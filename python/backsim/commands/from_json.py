@@ -46,7 +46,7 @@ def add_arguments(parser: argparse.ArgumentParser) -> None:
 def run(arguments: argparse.Namespace) -> int:
     if (arguments.vcd is None) != (arguments.scope is None):
         raise WordsError("--vcd and --scope go together")
-    check_places(arguments.netlist, arguments.timing)
+    check_places(arguments.netlist, arguments.timing, read=(arguments.json, arguments.vcd))
     words = list(map(_clock_words, arguments.clock))
     module = read_module(arguments.json, arguments.top)
     how = Asynchronous(arguments.async_reset) if arguments.async_reset else None

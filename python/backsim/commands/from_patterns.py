@@ -5,6 +5,7 @@ import argparse
 from pathlib import Path
 
 from ..command_line.arguments import in_units, moment_of, unit_word
+from ..command_line.outputs import check_places
 from ..convert.output import add_output, whole_text
 from ..convert.patterns import read_patterns, stimulus_of
 from ..formats.netlist import read_netlist
@@ -27,6 +28,7 @@ def add_arguments(parser: argparse.ArgumentParser) -> None:
 
 
 def run(arguments: argparse.Namespace) -> int:
+    check_places(arguments.output, read=(arguments.netlist, arguments.patterns))
     netlist = read_netlist(arguments.netlist)
     period = in_units(arguments.period, arguments.unit, "--period", 1, MOST_TIME)
     first = in_units(arguments.first, arguments.unit, "--first", 0, MOST_TIME)

@@ -5,6 +5,7 @@ import argparse
 from pathlib import Path
 
 from ..command_line.arguments import unit_word
+from ..command_line.outputs import check_places
 from ..convert.annotate import annotate
 from ..convert.annotate_cells import annotate_cells
 from ..convert.cells import Asynchronous
@@ -41,6 +42,7 @@ def add_arguments(parser: argparse.ArgumentParser) -> None:
 
 
 def run(arguments: argparse.Namespace) -> int:
+    check_places(arguments.output, read=(arguments.netlist, arguments.sdf, arguments.json))
     netlist = read_netlist(arguments.netlist)
     base = read_timing(arguments.timing, netlist) if arguments.timing else Timing(default=1)
     delays = read_sdf(arguments.sdf, Corner(arguments.corner))

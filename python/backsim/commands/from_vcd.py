@@ -48,7 +48,7 @@ def run(arguments: argparse.Namespace) -> int:
     if arguments.start != "0" and lines is None and netlist.flops() and not arguments.window:
         raise WordsError("the netlist has flip-flops, whose clocks and initial values a window shifts: say --timing "
                          "and --window too")
-    check_places(arguments.window, arguments.output)
+    check_places(arguments.window, arguments.output, read=(arguments.netlist, arguments.vcd, arguments.timing, arguments.script))
     timing = read_timing(arguments.timing, netlist) if arguments.timing else None
     span = span_of(arguments, timing.unit if timing else None)
     dump = read_dump(arguments.vcd, arguments.scope, span, names | (names_for(netlist) if timing else set()))

@@ -64,7 +64,7 @@ def run(arguments: argparse.Namespace) -> int:
     inputs = tuple(name for name in netlist.inputs if constant_value(name) is None)
     if not inputs:
         raise UsageError(f"{arguments.netlist}: the netlist has no INPUT to apply patterns to")
-    check_places(arguments.output)
+    check_places(arguments.output, read=(arguments.netlist, arguments.timing))
     search = Search(classes, inputs, random.Random(arguments.seed), -(-len(classes) * arguments.coverage // 100), arguments.idle, arguments.most)
     is_partial = False
     try:

@@ -4,6 +4,7 @@ from __future__ import annotations
 import argparse
 from pathlib import Path
 
+from ..command_line.outputs import check_places
 from ..convert.output import add_output, whole_text
 from ..convert.waves import dumped_of, runs_of
 from ..errors import FormatError, WordsError
@@ -26,6 +27,7 @@ def add_arguments(parser: argparse.ArgumentParser) -> None:
 
 
 def run(arguments: argparse.Namespace) -> int:
+    check_places(arguments.output, read=(arguments.replies,))
     if TIMESCALE.fullmatch(arguments.timescale) is None:
         raise WordsError(f"the time scale {arguments.timescale} is none of 1, 10 or 100 of s, ms, us, ns, ps or fs")
     if not arguments.top or any(letter <= " " or letter > "~" for letter in arguments.top):

@@ -4,6 +4,7 @@ from __future__ import annotations
 import argparse
 from pathlib import Path
 
+from ..command_line.outputs import check_places
 from ..convert.output import add_output, whole_text
 from ..convert.verilog import Source, questions_of, with_dump, with_questions
 from ..errors import WordsError
@@ -34,6 +35,7 @@ def add_arguments(parser: argparse.ArgumentParser) -> None:
 def run(arguments: argparse.Namespace) -> int:
     if (arguments.script is None) == (arguments.dump is None):
         raise WordsError("either a SCRIPT or --dump VCD is wanted")
+    check_places(arguments.output, read=(arguments.netlist, arguments.timing, arguments.stimulus, arguments.script))
     circuit = Source(*read_files(arguments.netlist, arguments.timing, arguments.stimulus), arguments.primitives)
     if arguments.dump is not None:
         lines = with_dump(circuit, arguments.dump)

@@ -70,7 +70,7 @@ def add_arguments(parser: argparse.ArgumentParser) -> None:
 
 def run(arguments: argparse.Namespace) -> int:
     form = form_of(arguments.output, FORMS) if arguments.output else None
-    check_places(arguments.output, arguments.html)
+    check_places(arguments.output, arguments.html, read=(arguments.netlist, arguments.timing, arguments.stimulus, arguments.proof))
     with without_collection():
         return _tell(_explanation_of(arguments), form, arguments)
 
