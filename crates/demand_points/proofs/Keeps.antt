@@ -1,5 +1,5 @@
 -- What every strand of a batch keeps, at each of its steps.
-use Rattle.std.proofs.Common.{◌≡◌, ℕ, ◌+◌, ◌<◌, ◌≤◌, ◌^◌, List, [], length, refl, sym, subst, arith, Option, Some, None, MatchOption, IfSome, false}
+use Rattle.std.proofs.Common.{◌≡◌, ℕ, ◌+◌, ◌<◌, ◌≤◌, List, [], length, refl, sym, subst, arith, Option, Some, None, MatchOption, IfSome, false}
 use Rattle.std.proofs.Math.ListN.{length-map}
 use Rattle.valid_intervals.specs.declared.Cell.{Cell}
 use Rattle.valid_intervals.specs.declared.Point.{Point}

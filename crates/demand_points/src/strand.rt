@@ -11,11 +11,11 @@ ghost use Rattle.plan_machine.specs.Strands.{next, started_strand};
 ghost use Rattle.demand_points.specs.Demands.{HasHeardBases, IsAskedCell, IsAsking, IsFilling, IsKnownStrand, IsRootCell, TakesStep, itself};
 ghost use Rattle.valid_intervals.specs.declared.Point.{Point};
 
+use crate::batch_design::BatchDesign;
 use crate::names::BatchName;
 use crate::parts::Parts;
 use crate::stack::Stack;
 use claim_waiters::Waiter;
-use design::Design;
 use journal_meaning::Query;
 use plan_machine::Next;
 use std::alloc::Global;
@@ -182,39 +182,38 @@ impl<B: BatchName> Strand<B> {
     }
 
     /// Hears base answers until a step is needed, and answers that step. Called again, it changes nothing.
-    pub fn next_step(&mut self, design: &Design) -> Next
-        requires { design.now.circuit ≡ B.batch.circuit }
+    pub fn next_step(&mut self, design: BatchDesign<'_, B>) -> Next
         ensures next { result ≡ next self.new.strand }
         ensures steps { TakesStep itself self.old self.new }
         ensures heard { HasHeardBases B.batch.circuit self.new }
         ensures again { HasHeardBases B.batch.circuit self.old → self.new ≡ self.old }
     {
+        let design = design.design();
         self.parts.settle_unless(self.settled, design);
         self.settled = true;
         self.parts.next(design)
     }
 
     /// Hears the cell of the point that it asks for.
-    pub fn hear(&mut self, design: &Design, cell: Cell)
-        requires design { design.now.circuit ≡ B.batch.circuit }
+    pub fn hear(&mut self, design: BatchDesign<'_, B>, cell: Cell)
         requires answer { IsAskedCell B.batch.circuit self.old.strand cell }
         ensures { TakesStep strands.after_answer self.old self.new }
     {
+        let design = design.design();
         self.parts.settle_unless(self.settled, design);
         self.settled = false;
         self.parts.hear(design, &cell);
     }
 
     /// Claims the point that it asks for, and is charged for it. Where memory runs out, it stays as it was.
-    pub fn take_claim(&mut self, design: &Design, p: Point) -> Result<(), OutOfMemory>
-        requires design { design.now.circuit ≡ B.batch.circuit }
+    pub fn take_claim(&mut self, design: BatchDesign<'_, B>, p: Point) -> Result<(), OutOfMemory>
         requires asks { next self.old.strand ≡ Ask p }
         requires room { self.old.strand.charged < self.old.strand.budget }
         ensures ok { OnOk result (TakesStep (λ s. strands.after_claim B.batch.circuit s p) self.old
             self.new) }
         ensures err { OnErr result (self.new ≡ self.old) }
     {
-        self.parts.claim(self.settled, design, p)?;
+        self.parts.claim(self.settled, design.design(), p)?;
         self.settled = false;
         Ok(())
     }
@@ -229,24 +228,22 @@ impl<B: BatchName> Strand<B> {
     }
 
     /// The cell of the point on top of its stack.
-    pub fn top_cell(&self, design: &Design) -> Cell
-        requires design { design.now.circuit ≡ B.batch.circuit }
+    pub fn top_cell(&self, design: BatchDesign<'_, B>) -> Cell
         requires fills { IsFilling self.now.strand }
         ensures { (p : Point) → next self.now.strand ≡ Fill p → result ≡ cell_at B.batch.circuit p }
     {
-        self.parts.top_cell(design)
+        self.parts.top_cell(design.design())
     }
 
     /// Ends the claim of the point on top of its stack, whose cell is known; what lies under it hears the cell.
-    pub fn finish_with(&mut self, design: &Design, cell: &Cell)
-        requires design { design.now.circuit ≡ B.batch.circuit }
+    pub fn finish_with(&mut self, design: BatchDesign<'_, B>, cell: &Cell)
         requires fills { IsFilling self.old.strand }
         requires cell { (p : Point) → next self.old.strand ≡ Fill p
             → cell.now ≡ cell_at B.batch.circuit p }
         ensures { TakesStep strands.after_fill self.old self.new }
     {
         self.settled = false;
-        self.parts.finish(design, cell);
+        self.parts.finish(design.design(), cell);
     }
 
     /// Ends the claim of the point on top of its stack without a cell, and answers the point.

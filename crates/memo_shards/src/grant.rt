@@ -5,8 +5,7 @@ ghost use Rattle.memo_shards.specs.Grants.{IsGranted, Follows};
 
 use crate::steps::Step;
 use crate::wake::hear_all;
-use demand_points::{BatchName, Strand};
-use design::Design;
+use demand_points::{BatchDesign, BatchName, Strand};
 use texts::OutOfMemory;
 use valid_intervals::{Cell, Point};
 
@@ -31,10 +30,9 @@ pub enum Grant<B: BatchName> {
 /// stays as it was.
 pub fn follow<B: BatchName>(
     strand: &mut Strand<B>,
-    design: &Design,
+    design: BatchDesign<'_, B>,
     grant: Grant<B>,
 ) -> Result<Step<B>, OutOfMemory>
-    requires design { design.now.circuit ≡ B.batch.circuit }
     requires granted { IsGranted B.batch strand.old grant }
     ensures { Follows B.batch grant strand.old strand.new result }
 {

@@ -25,8 +25,8 @@
 //! O(log n) steps; a fill takes as many, and one for each strand that waited.
 //!
 //! ```
-//! let next = strand.next_step(&design);
-//! match shard.step(&mut strand, &design, next)? {
+//! let next = strand.next_step(design);
+//! match shard.step(&mut strand, design, next)? {
 //!     Step::Heard | Step::Holds | Step::Refused => {}
 //!     Step::Taken => shard.park(strand, p)?, // it comes back as the claim of p ends
 //!     Step::Filled(woken) | Step::Dropped(woken) => ready.append(woken),
@@ -36,9 +36,9 @@
 //! Or in halves:
 //!
 //! ```
-//! let request = request_of(&strand, &design, next)?;
+//! let request = request_of(&strand, design, next)?;
 //! let grant = shard.lock(rt).grant(&strand, request)?;
-//! let step = follow(&mut strand, &design, grant)?;
+//! let step = follow(&mut strand, design, grant)?;
 //! ```
 #![tactic(auto)]
 

@@ -5,8 +5,7 @@ ghost use Rattle.plan_machine.specs.Strands.{next as next_of};
 ghost use Rattle.plan_machine.specs.declared.strand.Next.TheVariants.{Done};
 ghost use Rattle.memo_shards.specs.Grants.{step_of, point_of, IsRequest};
 
-use demand_points::{BatchName, Strand};
-use design::Design;
+use demand_points::{BatchDesign, BatchName, Strand};
 use plan_machine::Next;
 use valid_intervals::{Cell, Point};
 
@@ -33,8 +32,11 @@ impl Request {
 }
 
 /// The request of the strand's next step, if one is left. The cell of a point that it fills is worked out here.
-pub fn request_of<B: BatchName>(strand: &Strand<B>, design: &Design, next: Next) -> Option<Request>
-    requires design { design.now.circuit ≡ B.batch.circuit }
+pub fn request_of<B: BatchName>(
+    strand: &Strand<B>,
+    design: BatchDesign<'_, B>,
+    next: Next,
+) -> Option<Request>
     requires next { next_of strand.now.strand ≡ next }
     ensures some { IfSome result (IsRequest B.batch strand.now) }
     ensures none { result ≡ None → next ≡ Done }

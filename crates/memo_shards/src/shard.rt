@@ -30,8 +30,7 @@ use crate::steps::Step;
 use crate::wake::hear_all;
 use cell_store::CellStore;
 use claim_waiters::ClaimTable;
-use demand_points::{BatchName, Strand};
-use design::Design;
+use demand_points::{BatchDesign, BatchName, Strand};
 use journal_meaning::Entry;
 use plan_machine::Next;
 use std::alloc::Global;
@@ -252,10 +251,9 @@ impl<B: BatchName> Shard<B> {
     fn claim(
         &mut self,
         strand: &mut Strand<B>,
-        design: &Design,
+        design: BatchDesign<'_, B>,
         p: Point,
     ) -> Result<Step<B>, OutOfMemory>
-        requires design { design.now.circuit ≡ B.batch.circuit }
         requires asks { next strand.old.strand ≡ Ask p }
         requires here { IsHere B.batch self.old p }
         requires missed { stored_at self.old.shard.state.cells p ≡ None }
@@ -284,10 +282,9 @@ impl<B: BatchName> Shard<B> {
     fn answer(
         &mut self,
         strand: &mut Strand<B>,
-        design: &Design,
+        design: BatchDesign<'_, B>,
         p: Point,
     ) -> Result<Step<B>, OutOfMemory>
-        requires design { design.now.circuit ≡ B.batch.circuit }
         requires asks { next strand.old.strand ≡ Ask p }
         requires here { IsHere B.batch self.old p }
         ensures { OfStep B.batch self.old self.new (Ask p) strand.old strand.new result }
@@ -310,10 +307,9 @@ impl<B: BatchName> Shard<B> {
     fn fill_top(
         &mut self,
         strand: &mut Strand<B>,
-        design: &Design,
+        design: BatchDesign<'_, B>,
         p: Point,
     ) -> Result<Step<B>, OutOfMemory>
-        requires design { design.now.circuit ≡ B.batch.circuit }
         requires fills { next strand.old.strand ≡ Fill p }
         requires claimed { holder self.old.shard.state.claims p
             ≡ Some strand.old.strand.query.number }
@@ -343,10 +339,9 @@ impl<B: BatchName> Shard<B> {
     pub fn step(
         &mut self,
         strand: &mut Strand<B>,
-        design: &Design,
+        design: BatchDesign<'_, B>,
         next: Next,
     ) -> Result<Step<B>, OutOfMemory>
-        requires design { design.now.circuit ≡ B.batch.circuit }
         requires next { next_of strand.old.strand ≡ next }
         requires stands { MayStep B.batch self.old next strand.old }
         ensures { OfStep B.batch self.old self.new next strand.old strand.new result }

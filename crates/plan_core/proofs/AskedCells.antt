@@ -1,35 +1,28 @@
 -- What asking for one time leaves.
-use Rattle.std.proofs.Common.{◌≡◌, ℕ, ◌-◌, nat_lt, Bool, false, true≢false, List, [], ◌∷◌, All, is_some, Option, Some, None, refl, sym, subst, arith}
+use Rattle.std.proofs.Common.{◌≡◌, ℕ, Bool, false, true≢false, List, [], ◌∷◌, All, is_some, Option, Some, None, refl, sym, subst, arith}
 use Rattle.std.proofs.lemmas.List.Elements.{All-from_recursion, recursion_from_All}
 use Rattle.valid_intervals.specs.declared.Point.{Point}
 use Rattle.valid_intervals.specs.declared.SignalCell.{SignalCell}
-use Rattle.journal_meaning.specs.declared.Entry.{Entry}
 use Rattle.journal_meaning.specs.declared.Entry.TheVariants.{Filled}
 use Rattle.journal_meaning.specs.Answers.{IsCovered}
 use Rattle.journal_meaning.proofs.Callers.{added-none}
 use Rattle.journal_meaning.specs.declared.batch.Query.{Query}
 use Rattle.journal_meaning.specs.Batches.{Batch}
-use Rattle.journal_meaning.specs.Lawful.{IsLawful}
 use Rattle.journal_meaning.specs.Pieces.{Start}
-use Rattle.plan_machine.specs.Strands.{roots_from}
 use Rattle.plan_machine.specs.Shards.{Shard}
-use Rattle.plan_machine.specs.Alone.{roots_of, IsOutcome}
+use Rattle.plan_machine.specs.Alone.{IsOutcome}
 use Rattle.plan_machine.specs.Settle.{journals_of, entries_in}
-use Rattle.plan_machine.specs.Standings.{AskedAlone, IsStanding, IsAskedFor, Reaches}
-use Rattle.plan_machine.proofs.Callers.{one-root, asked-reaches, contains-none}
+use Rattle.plan_machine.specs.Standings.{AskedAlone}
+use Rattle.plan_machine.proofs.Callers.{one-root, contains-none}
 use Rattle.memo_shards.specs.KeptShards.{KeptShard}
 use Rattle.plan_core.specs.Parts.{shards_in}
 use Rattle.plan_core.specs.asked.Memos.{IsChargedMemo, entries_of, asked_at, at_time}
 use Rattle.plan_core.specs.asked.Asked.{HasAsked}
-use Rattle.plan_core.specs.asked.Standings.{live, standing}
 
 module _ (b : Batch) (opening : ℕ → List SignalCell) where
   -- a strand ran alone
   pub ran-alone : (a : Start) (old new : List Shard) (o : Option Point) (r : Bool) → r ≡ is_some o → AskedAlone b opening a old new o → HasAsked b opening a old new r
   ran-alone a old new o r e k = record { fresh = k.fresh; added = k.added; journals = k.journals; own = k.own; children = k.children; refused_at = o; flag = e; outcome = k.outcome }
-
-  as-alone : (a : Start) (old new : List Shard) (r : Bool) (h : HasAsked b opening a old new r) → AskedAlone b opening a old new h.refused_at
-  as-alone a old new r h = record { fresh = h.fresh; added = h.added; journals = h.journals; own = h.own; children = h.children; outcome = h.outcome }
 
   -- nothing is asked where the time is covered
   pub known-asked : (ms : List KeptShard) (query : Query) (t charge : ℕ) → IsChargedMemo b opening ms query charge → IsCovered b.circuit (entries_of ms) (at_time query t) → HasAsked b opening (asked_at query t charge) (shards_in ms) (shards_in ms) false
@@ -55,10 +48,3 @@ module _ (b : Batch) (opening : ℕ → List SignalCell) where
       by : (o : Option Point) → false ≡ is_some o → IsOutcome b.circuit (asked_at query t charge) h.added (entries_in new) o → IsCovered b.circuit (entries_in new) (at_time query t)
       by None e s = (recursion_from_All (IsCovered b.circuit (entries_in new)) (at_time query t ∷ []) (subst (All (IsCovered b.circuit (entries_in new))) (one-root b.circuit (asked_at query t charge) refl) s.roots)).0
       by (Some p) e s = absurd (true≢false (sym e))
-
--- in the words of settlement
-pub reaches : (b : Batch) → IsLawful b → (opening : ℕ → List SignalCell) (q : Query) (start : List Entry) (first : List Shard) (old new : List KeptShard) (query : Query) (t charge : ℕ) (r : Bool) → IsStanding b opening q start first (live old)
-    → IsAskedFor q (entries_of old) (at_time query t) (asked_at query t charge) → HasAsked b opening (asked_at query t charge) (shards_in old) (shards_in new) r → Reaches b opening q start first (live old) (at_time query t) (standing new r)
-reaches b lawful opening q start first old new query t charge r s a h =
-    subst (λ f. Reaches b opening q start first (live old) (at_time query t) (standing new f)) (sym h.flag)
-    (asked-reaches b lawful opening q start first (live old) s refl (at_time query t) (asked_at query t charge) a (shards_in new) h.refused_at (as-alone b opening (asked_at query t charge) (shards_in old) (shards_in new) r h))

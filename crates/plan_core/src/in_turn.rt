@@ -8,8 +8,7 @@ ghost use Rattle.plan_core.specs.Parts.{AreFree, AreInOrder, shards_in};
 ghost use Rattle.plan_core.specs.InTurn.{AllChildrenCovered, HasRun, IsUnused, booked_in, made_by, made_in, task_of};
 ghost use Rattle.plan_core.specs.inner.InTurn.{IsAlone, IsWithin, KeepsTask, OfTurnAlone, TakesOne};
 
-use demand_points::{BatchName, Strand};
-use design::Design;
+use demand_points::{BatchDesign, BatchName, Strand};
 use memo_shards::{Shard, Step, know_all, shard_number, step_point};
 use plan_machine::Turned;
 use texts::OutOfMemory;
@@ -18,9 +17,8 @@ use texts::OutOfMemory;
 fn turn<B: BatchName>(
     strand: &mut Strand<B>,
     shards: &mut [Shard<B>],
-    design: &Design,
+    design: BatchDesign<'_, B>,
 ) -> Result<Turned, OutOfMemory>
-    requires design { design.now.circuit ≡ B.batch.circuit }
     requires alone { IsAlone B.batch B.opening strand.old shards.old }
     ensures { OfTurnAlone B.batch B.opening strand.old shards.old strand.new shards.new result }
 {
@@ -60,10 +58,9 @@ fn takes_turn(left: &mut Option<u64>) -> bool
 fn run_one<B: BatchName>(
     strand: &mut Strand<B>,
     shards: &mut [Shard<B>],
-    design: &Design,
+    design: BatchDesign<'_, B>,
     left: &mut Option<u64>,
 ) -> Result<bool, OutOfMemory>
-    requires design { design.now.circuit ≡ B.batch.circuit }
     requires lawful { IsLawful B.batch }
     requires order { AreInOrder shards.old }
     requires fresh { IsFresh B.batch B.opening (shards_in shards.old) }
@@ -97,10 +94,9 @@ fn run_one<B: BatchName>(
 pub fn run_in_turn<B: BatchName>(
     strands: &mut [Strand<B>],
     shards: &mut [Shard<B>],
-    design: &Design,
+    design: BatchDesign<'_, B>,
     most: Option<u64>,
 ) -> Result<Option<bool>, OutOfMemory>
-    requires design { design.now.circuit ≡ B.batch.circuit }
     requires some { 0 < length shards.old }
     requires shards { AreFree B.batch shards.old }
     requires strands { All IsUnused strands.old }

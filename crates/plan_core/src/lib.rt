@@ -23,7 +23,7 @@
 //! step for each strand that is woken. No list is shifted or copied. A strand is changed in its place, and moved only where it waits.
 //!
 //! ```
-//! match run_in_turn(&mut strands, &mut shards, &design, Some(1_000))? {
+//! match run_in_turn(&mut strands, &mut shards, design, Some(1_000))? {
 //!     Some(true) => {} // each strand has heard its roots
 //!     Some(false) => {} // one was refused a point
 //!     None => {} // turns are left

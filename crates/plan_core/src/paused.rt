@@ -5,8 +5,7 @@ ghost use Rattle.plan_machine.specs.Strands.{next};
 ghost use Rattle.demand_points.specs.Demands.{TakesStep, itself};
 ghost use Rattle.memo_shards.specs.Steps.{MayStep, OfStep};
 
-use demand_points::{BatchName, Strand};
-use design::Design;
+use demand_points::{BatchDesign, BatchName, Strand};
 use memo_shards::{Shard, Step};
 use plan_machine::Next;
 use std::marker::Model;
@@ -33,8 +32,7 @@ impl<B: BatchName> Model for Paused<B> {
 
 impl<B: BatchName> Paused<B> {
     /// Brings a strand to its next step.
-    pub fn new(mut strand: Strand<B>, design: &Design) -> Paused<B>
-        requires { design.now.circuit ≡ B.batch.circuit }
+    pub fn new(mut strand: Strand<B>, design: BatchDesign<'_, B>) -> Paused<B>
         ensures { TakesStep itself strand result }
     {
         let step = strand.next_step(design);
@@ -56,8 +54,11 @@ impl<B: BatchName> Paused<B> {
 
     /// Makes the next step at the shard of its point, and goes on to the one after it unless the point is claimed. Returns what came of it.
     /// Where memory runs out, nothing changes.
-    pub fn step(&mut self, shard: &mut Shard<B>, design: &Design) -> Result<Step<B>, OutOfMemory>
-        requires design { design.now.circuit ≡ B.batch.circuit }
+    pub fn step(
+        &mut self,
+        shard: &mut Shard<B>,
+        design: BatchDesign<'_, B>,
+    ) -> Result<Step<B>, OutOfMemory>
         requires stands { MayStep B.batch shard.old (next self.old.strand) self.old }
         ensures { OfStep B.batch shard.old shard.new (next self.old.strand) self.old self.new
             result }

@@ -8,8 +8,7 @@ ghost use Rattle.memo_shards.specs.Seen.{numbered_strand};
 ghost use Rattle.plan_core.specs.inner.Places.{seats, tags, tag_of, AreNumbered, HaveNumbers, IsNextAt};
 
 use crate::paused::Paused;
-use demand_points::{BatchName, Strand};
-use design::Design;
+use demand_points::{BatchDesign, BatchName, Strand};
 use plan_machine::Next;
 use std::alloc::Global;
 use texts::OutOfMemory;
@@ -55,9 +54,8 @@ pub fn put_at<B: BatchName>(
 pub fn put_back<B: BatchName>(
     places: &mut Vec<Option<Paused<B>>>,
     woken: Vec<Strand<B>>,
-    design: &Design,
+    design: BatchDesign<'_, B>,
 )
-    requires design { design.now.circuit ≡ B.batch.circuit }
     requires numbers { HaveNumbers (length places.old.items) woken.items }
     requires numbered { AreNumbered places.old.items }
     ensures seats { seats places.new.items ≡ put_all itself (seats places.old.items)
@@ -75,9 +73,8 @@ pub fn put_back<B: BatchName>(
 pub fn pause_all<B: BatchName>(
     alloc: Global,
     strands: Vec<Strand<B>>,
-    design: &Design,
+    design: BatchDesign<'_, B>,
 ) -> Result<Vec<Option<Paused<B>>>, OutOfMemory>
-    requires { design.now.circuit ≡ B.batch.circuit }
     ensures { IfOk result (λ v. tags v.items ≡ map tag_of strands.items) }
 {
     let mut places = Vec::new(alloc);

@@ -22,8 +22,7 @@ use crate::alone::{Alone, asked_at, refuse};
 use crate::paused::Paused;
 use crate::places::pause_all;
 use crate::turns;
-use demand_points::{BatchName, Strand};
-use design::Design;
+use demand_points::{BatchDesign, BatchName, Strand};
 use memo_shards::{Shard, know_all};
 use plan_machine::Turned;
 use std::alloc::Global;
@@ -55,12 +54,11 @@ impl<B: BatchName> Plan<B> {
     /// base answers complete has ended.
     pub fn new(
         alloc: Global,
-        design: &Design,
+        design: BatchDesign<'_, B>,
         strands: Vec<Strand<B>>,
         shards: Vec<Shard<B>>,
     ) -> Result<Plan<B>, OutOfMemory>
         requires lawful { IsLawful B.batch }
-        requires design { design.now.circuit ≡ B.batch.circuit }
         requires strands { AreFreshStrands B.batch strands.items }
         requires shards { AreFree B.batch shards.items }
         ensures ok { IfOk result (λ plan. plan ≡ plan_of_new strands.items shards.items) }
@@ -83,8 +81,7 @@ impl<B: BatchName> Plan<B> {
     }
 
     /// One turn of the strand with this number. If memory runs out, nothing changes.
-    pub fn turn(&mut self, design: &Design, number: u32) -> Result<Turned, OutOfMemory>
-        requires design { design.now.circuit ≡ B.batch.circuit }
+    pub fn turn(&mut self, design: BatchDesign<'_, B>, number: u32) -> Result<Turned, OutOfMemory>
         requires number { number < length self.old.strands }
         ensures comes { IfOk result (λ t. t ≡ turn_outcome self.old number) }
         ensures ok { OnOk result (self.new ≡ turn B.batch self.old number) }
@@ -116,12 +113,11 @@ impl<B: BatchName> Plan<B> {
     // One turn of a strand that runs alone. Returns whether it goes on.
     fn turn_alone(
         &mut self,
-        design: &Design,
+        design: BatchDesign<'_, B>,
         number: u32,
         alone: &mut Alone,
     ) -> Result<bool, OutOfMemory>
         requires lawful { IsLawful B.batch }
-        requires design { design.now.circuit ≡ B.batch.circuit }
         requires number { number < length self.old.strands }
         ensures count { length self.new.strands ≡ length self.old.strands }
         ensures less { IfOk result (λ more. more ≡ true
@@ -152,8 +148,11 @@ impl<B: BatchName> Plan<B> {
 
     /// Turns of one strand alone until it has ended. If it is refused for its budget, this is recorded before it drops what it holds. If
     /// memory runs out, the turns before stay, and all are this strand's.
-    pub fn run_alone(&mut self, design: &Design, number: u32) -> Result<Alone, OutOfMemory>
-        requires design { design.now.circuit ≡ B.batch.circuit }
+    pub fn run_alone(
+        &mut self,
+        design: BatchDesign<'_, B>,
+        number: u32,
+    ) -> Result<Alone, OutOfMemory>
         requires number { number < length self.old.strands }
         ensures ran { (a : Start) → BeginsAlone B.batch B.opening number a self.old
             → IfOk result (λ alone. RanAlone B.batch B.opening number a self.old self.new

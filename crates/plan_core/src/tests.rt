@@ -8,7 +8,7 @@ ghost use Rattle.plan_core.specs.Parts.{IsFreshStrand};
 use crate::Plan;
 use bench_reader::read_bench;
 use cell_store::CellStore;
-use demand_points::{BatchName, Strand};
+use demand_points::{BatchDesign, BatchName, Strand};
 use design::Design;
 use gate_values::Value;
 use journal_meaning::{Entry, Query};
@@ -115,12 +115,11 @@ fn opened<B: BatchName>(alloc: Global, number: u32) -> Result<Shard<B>, Fail>
 /// The plan of a strand for each query, and of two shards that hold no cells.
 fn planned<B: BatchName>(
     alloc: Global,
-    design: &Design,
+    design: BatchDesign<'_, B>,
     first: Query,
     second: Query,
 ) -> Result<Plan<B>, Fail>
     requires lawful { IsLawful B.batch }
-    requires design { design.now.circuit ≡ B.batch.circuit }
     requires shards { B.batch.shards ≡ 2 }
     requires capacity { B.batch.capacity ≡ 8 }
     requires site { B.batch.site ≡ None }
@@ -140,11 +139,10 @@ fn planned<B: BatchName>(
 /// The results of turns of the strands with these numbers, one after another.
 fn make_turns<B: BatchName>(
     alloc: Global,
-    design: &Design,
+    design: BatchDesign<'_, B>,
     plan: &mut Plan<B>,
     numbers: &[u32],
 ) -> Result<Vec<Turned>, Fail>
-    requires design { design.now.circuit ≡ B.batch.circuit }
     requires strands { length plan.old.strands ≡ 2 }
 {
     let mut turned = Vec::new(alloc);
@@ -205,7 +203,8 @@ fn play_in<B: BatchName>(
     requires opening { (B.opening 0 ≡ []) × (B.opening 1 ≡ []) }
     requires some { (first.from < first.to) × (second.from < second.to) }
 {
-    let mut plan = planned::<B>(alloc, design, first, second)?;
+    let design = BatchDesign::<B>::new(design);
+    let mut plan = planned(alloc, design, first, second)?;
     let turned = make_turns(alloc, design, &mut plan, numbers)?;
     let shards = plan.into_shards();
     let journals = journals_of(alloc, &shards)?;

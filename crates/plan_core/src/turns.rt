@@ -13,8 +13,7 @@ ghost use Rattle.plan_core.specs.inner.Turns.{OfPlaceStep, OfTurn};
 
 use crate::paused::Paused;
 use crate::places::{next_at, put_back};
-use demand_points::{BatchName, Strand};
-use design::Design;
+use demand_points::{BatchDesign, BatchName, Strand};
 use memo_shards::{Shard, Step, shard_number, step_point};
 use plan_machine::Turned;
 use texts::OutOfMemory;
@@ -27,10 +26,9 @@ type Came<B> = (Turned, Option<Vec<Strand<B>>>);
 fn park<B: BatchName>(
     shard: &mut Shard<B>,
     place: &mut Option<Paused<B>>,
-    design: &Design,
+    design: BatchDesign<'_, B>,
     p: Point,
 ) -> Result<Came<B>, OutOfMemory>
-    requires design { design.now.circuit ≡ B.batch.circuit }
     requires asks { (s : Demand) × ((place.old ≡ Some s) × (next s.strand ≡ Ask p)) }
     requires missed { stored_at shard.old.shard.state.cells p ≡ None }
     requires claimed { IsSome (holder shard.old.shard.state.claims p) }
@@ -54,10 +52,9 @@ fn park<B: BatchName>(
 fn step<B: BatchName>(
     shard: &mut Shard<B>,
     place: &mut Option<Paused<B>>,
-    design: &Design,
+    design: BatchDesign<'_, B>,
     p: Point,
 ) -> Result<Came<B>, OutOfMemory>
-    requires design { design.now.circuit ≡ B.batch.circuit }
     requires stands { (s : Demand) × ((place.old ≡ Some s) ×
         (MayStep B.batch shard.old (next s.strand) s × (p ≡ step_point (next s.strand)))) }
     ensures came { (s : Demand) → place.old ≡ Some s
@@ -84,10 +81,9 @@ fn step<B: BatchName>(
 pub fn turn<B: BatchName>(
     places: &mut Vec<Option<Paused<B>>>,
     shards: &mut Vec<Shard<B>>,
-    design: &Design,
+    design: BatchDesign<'_, B>,
     number: usize,
 ) -> Result<Turned, OutOfMemory>
-    requires design { design.now.circuit ≡ B.batch.circuit }
     requires parts { IsPlan B.batch B.opening places.old.items shards.old.items }
     requires number { number < length places.old.items }
     ensures { OfTurn B.batch B.opening (plan_at places.old.items shards.old.items) number

@@ -1,5 +1,5 @@
 -- The one query of a batch, for one time: what it needs, and its answer.
-use Rattle.std.proofs.Common.{◌≡◌, ℕ, ◌+◌, ◌<◌, ◌≤◌, Bool, true, List, [], ◌∷◌, length, Contains, Option, Some, None, refl, sym, ap, subst, ◌∙◌, arith}
+use Rattle.std.proofs.Common.{◌≡◌, ℕ, ◌+◌, ◌<◌, ◌≤◌, Bool, true, false, List, [], ◌∷◌, length, Contains, Option, Some, None, refl, sym, ap, subst, ◌∙◌, arith}
 use Rattle.std.proofs.lemmas.List.Elements.{All-contains}
 use Rattle.valid_intervals.specs.declared.Cell.{Cell}
 use Rattle.valid_intervals.specs.declared.Point.{Point}
@@ -18,14 +18,16 @@ use Rattle.session_meaning.specs.declared.Verdict.TheVariants.{Ask}
 use Rattle.reply_lines.specs.declared.reply.Outcome.TheVariants.{Budget}
 use Rattle.plan_machine.specs.Shards.{Shard}
 use Rattle.plan_machine.specs.Settle.{journals_of}
-use Rattle.plan_machine.specs.Standings.{IsOpen, IsStanding, Advances, Reaches}
+use Rattle.plan_machine.specs.Standings.{IsOpen, IsStanding}
 use Rattle.plan_machine.proofs.Callers.{begins-query, settles-closed, contains-none}
 use Rattle.memo_shards.specs.KeptShards.{KeptShard}
 use Rattle.plan_core.specs.Parts.{shards_in}
+use Rattle.plan_core.specs.asked.Asked.{AsksOn}
 use Rattle.design.specs.PinWalks.{IsPoint}
-use Rattle.plan_core.specs.asked.Memos.{AreFreeShards, entries_of, is_missing}
+use Rattle.plan_core.specs.asked.Memos.{AreFreeShards, entries_of}
 use Rattle.plan_core.specs.asked.Standings.{live, standing}
 use Rattle.query_answers.specs.explanations.inner.Gathered.{AreExplained}
+use Rattle.query_answers.proofs.AskedOn.{asks-advance}
 
 module _ (b : Batch) (lawful : IsLawful b) (opening : ℕ → List SignalCell) (q : Query) (queries : b.queries ≡ q ∷ []) (window : q.to ≡ q.from + 1) where
   abbrev root : Point
@@ -58,37 +60,31 @@ module _ (b : Batch) (lawful : IsLawful b) (opening : ℕ → List SignalCell) (
         refusals = refl;
       }))
 
-  -- its point was asked for
-  pub record IsHeard (first : List Shard) (heard : List KeptShard) : Type 0 where
-    pub stands : IsStanding b opening q [] first (live heard)
-    pub covered : IsCovered b.circuit (entries_of heard) root
-
-  pub is-heard : (first : List Shard) (old heard : List KeptShard) (o : Option Cell) (cell : Cell) → o ≡ Some cell → Reaches b opening q [] first (live old) root (standing heard (is_missing o)) → IsHeard first heard
-  is-heard first old heard o cell e r =
-      let k = subst (λ o. Reaches b opening q [] first (live old) root (standing heard (is_missing o))) e r in
-      record { stands = k.0.stands; covered = k.1 refl }
-
   -- the query is closed once its point is covered
   closed : (first : List Shard) (now : List KeptShard) → IsStanding b opening q [] first (live now) → IsCovered b.circuit (entries_of now) root → IsClosed b.circuit (entries_of now) q
   closed first now s covered =
       (settles-closed b lawful q within [] (entries_of now) s.state (λ p y m. absurd (contains-none _ [] refl m)) q.to
       (λ t since before. let same : q.from ≡ t = omega arith in subst (λ u. IsCovered b.circuit (entries_of now) (record { signal = q.signal; time = u })) same covered) (omega arith)).0
 
-  -- the lines are an explanation
-  pub answers-proof : (first : List Shard) (heard now : List KeptShard) (cell : Cell) (lines : List SignalCell) → cell ≡ cell_at b.circuit root → IsCovered b.circuit (entries_of heard) root → Advances b opening q [] first (live heard) (live now) → AreExplained b.circuit (entries_of now) q lines
-      → Explains b.circuit (entries_of now) q lines cell.value
-  answers-proof first heard now cell lines right covered a e = record {
-    justified = e.justified;
-    follows = e.follows ∙ ap (λ (x : Cell). Some x.value) (sym right);
-    ordered = e.ordered;
-    told = e.told;
-    closed = closed first now a.stands (a.kept root covered);
-  }
+  -- over shards in which nothing is recorded it was asked for
+  module _ (ms : List KeptShard) (kept : AreFreeShards b opening ms) (unused : entries_of ms ≡ []) (new : List KeptShard) (r : Bool) (asks : AsksOn b opening q (shards_in ms) false (shards_in new) r) where
+    pub asked-stands : IsStanding b opening q [] (shards_in ms) (standing new r)
+    asked-stands = (asks-advance b lawful opening q [] (shards_in ms) (shards_in ms) false (shards_in new) r refl asks (begins-standing ms kept unused)).stands
 
-  -- the query was refused
-  pub answers-budget : (first : List Shard) (now : List KeptShard) → IsStanding b opening q [] first (standing now true) → IsExplained b.circuit (entries_of now) (Ask q) (Budget q.budget)
-  answers-budget first now s = (refl, s.state.0)
+    -- the journals grew
+    pub journals-grown : (added : List Entry) × AreAdded (journals_of (shards_in ms)) added (journals_of (shards_in new))
+    journals-grown = let s = asked-stands in (s.added, s.journals)
 
-  -- the journals grew
-  pub journals-grown : (first : List Shard) (now : List KeptShard) (r : Bool) → IsStanding b opening q [] first (standing now r) → (added : List Entry) × AreAdded (journals_of first) added (journals_of (shards_in now))
-  journals-grown first now r s = (s.added, s.journals)
+    -- the query was refused
+    pub answers-budget : r ≡ true → IsExplained b.circuit (entries_of new) (Ask q) (Budget q.budget)
+    answers-budget e = (refl, (subst (λ z. IsStanding b opening q [] (shards_in ms) (standing new z)) e asked-stands).state.0)
+
+    -- the lines are an explanation
+    pub answers-proof : r ≡ false → (cell : Cell) (lines : List SignalCell) → cell ≡ cell_at b.circuit root → IsCovered b.circuit (entries_of new) root → AreExplained b.circuit (entries_of new) q lines → Explains b.circuit (entries_of new) q lines cell.value
+    answers-proof e' cell lines right covered e = record {
+      justified = e.justified;
+      follows = e.follows ∙ ap (λ (x : Cell). Some x.value) (sym right);
+      ordered = e.ordered;
+      told = e.told;
+      closed = closed (shards_in ms) new (subst (λ z. IsStanding b opening q [] (shards_in ms) (standing new z)) e' asked-stands) covered;
+    }

@@ -1,11 +1,11 @@
 -- The first time of a window at which a signal has a value.
-use Rattle.std.proofs.Common.{◌≡◌, ℕ, zero, suc, ◌+◌, ◌-◌, ◌<◌, ◌≤◌, Bool, true, false, true≢false, List, [], ◌∷◌, find, cond, Option, Some, None, refl, sym, ap, subst, ◌∙◌, arith, inl, inr}
+use Rattle.std.proofs.Common.{◌≡◌, ℕ, zero, suc, ◌+◌, ◌-◌, ◌<◌, ◌≤◌, Bool, true, false, true≢false, find, Option, Some, None, refl, sym, ap, subst, ◌∙◌, arith, inl, inr}
 use Rattle.std.specs.List.{range_with_len}
 use Rattle.std.proofs.lemmas.Bool.{cases_lt}
 use Rattle.gate_values.specs.declared.Value.{Value}
 use Rattle.gate_values.specs.Gates.{same_value}
 use Rattle.circuit_meaning.specs.Circuit.{Circuit}
-use Rattle.circuit_meaning.specs.Forward.{value, window}
+use Rattle.circuit_meaning.specs.Forward.{value}
 use Rattle.journal_meaning.specs.declared.batch.Query.{Query}
 use Rattle.session_meaning.specs.FirstTimes.{first_time, stop_at, up_to_first}
 

@@ -1,6 +1,7 @@
 mod Filled
 mod Heard
 mod Pins
+mod AskedOn
 mod Phases
 mod Turns
 mod Finished
@@ -9,7 +10,7 @@ mod Finding
 mod Lawful
 mod Walks
 mod Answering
-mod Asking
+mod Telling
 mod Ended
 mod Following
 mod Gathering

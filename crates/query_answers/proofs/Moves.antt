@@ -1,5 +1,5 @@
 -- What a point looks at, at another time of its cell: the same pins, whose sources lie in the same cells.
-use Rattle.std.proofs.Common.{◌≡◌, ℕ, zero, suc, ◌-◌, ◌+◌, ◌<◌, ◌≤◌, nat_lt, List, [], ◌∷◌, map, get_or, Contains, Option, Some, None, IfSome, refl, sym, ap, subst, ◌∙◌, arith, inl, inr, lt-ltb, le-ltb}
+use Rattle.std.proofs.Common.{◌≡◌, ℕ, zero, suc, ◌+◌, ◌<◌, ◌≤◌, List, [], ◌∷◌, map, get_or, Contains, Option, Some, None, IfSome, refl, sym, ap, subst, ◌∙◌, arith, inl, inr, lt-ltb, le-ltb}
 use Rattle.std.specs.List.{AllByRecursion}
 use Rattle.std.proofs.lemmas.Bool.{cases_lt}
 use Rattle.std.proofs.lemmas.List.Elements.{All-contains, recursion_from_All}

@@ -2,17 +2,16 @@
 use Rattle.std.proofs.Common.{◌≡◌, ℕ, ◌≤◌, List, get_or, Contains, Option, Some, None, refl, sym, subst}
 use Rattle.valid_intervals.specs.declared.Point.{Point}
 use Rattle.circuit_meaning.specs.Circuit.{Circuit}
-use Rattle.circuit_meaning.specs.Need.{IsEvaluable, children}
+use Rattle.circuit_meaning.specs.Need.{IsEvaluable, IsRoot, Root, children}
 use Rattle.circuit_meaning.proofs.Callers.{children-somes}
 use Rattle.journal_meaning.specs.declared.Entry.{Entry}
 use Rattle.journal_meaning.specs.declared.batch.Query.{Query}
 use Rattle.journal_meaning.specs.Answers.{IsCovered}
-use Rattle.journal_meaning.specs.Batches.{Batch, IsNeededBy, NeedOf, window_of}
+use Rattle.journal_meaning.specs.Batches.{Batch, Site, IsNeededBy, NeedOf, window_of}
 use Rattle.journal_meaning.specs.Lawful.{IsLawful}
 use Rattle.journal_meaning.specs.Pieces.{IsStart}
-use Rattle.plan_machine.specs.Standings.{IsAskedFor}
-use Rattle.plan_machine.specs.Settle.{child_start, root_start, charge_of}
-use Rattle.plan_machine.proofs.Callers.{wanted-time, evaluable-signal, child-start, child-needed, child-asked, root-asked}
+use Rattle.plan_machine.specs.Settle.{child_start}
+use Rattle.plan_machine.proofs.Callers.{wanted-time, evaluable-signal, child-start, child-needed}
 use Rattle.design.specs.PinWalks.{IsPoint, looked_at}
 use Rattle.plan_core.specs.asked.Sources.{IsSourceCovered}
 use Rattle.plan_core.proofs.Callers.{somes-has, needed-evaluable}
@@ -39,10 +38,6 @@ module _ (b : Batch) (lawful : IsLawful b) (q : Query) (known : Contains b.queri
   pub source-start : (x : Point) (n : ℕ) → get_or (looked_at b.circuit p) n None ≡ Some x → (charge : ℕ) → charge ≤ q.budget → IsEvaluable b.circuit x.signal x.time → IsStart b (child_start q x charge)
   source-start x n e charge low evaluable = child-start b lawful q known x (child-needed b lawful q p x need (source-child b.circuit p x n e) evaluable) evaluable charge low
 
--- a child is asked for with what the query is charged
-pub child-asks : (q : Query) (es : List Entry) (x : Point) (charge : ℕ) → charge ≡ charge_of es q → IsAskedFor q es x (child_start q x charge)
-child-asks q es x charge e = subst (λ n. IsAskedFor q es x (child_start q x n)) (sym e) (child-asked q es x)
-
--- and so is a root
-pub root-asks : (q : Query) (es : List Entry) (t charge : ℕ) → charge ≡ charge_of es q → IsAskedFor q es (record { signal = q.signal; time = t }) (root_start q t charge)
-root-asks q es t charge e = subst (λ n. IsAskedFor q es (record { signal = q.signal; time = t }) (root_start q t n)) (sym e) (root-asked q es t)
+-- a root of its window is a point that the query needs
+pub root-needed-by : (b : Batch) (q : Query) → b.site ≡ None → (t : ℕ) → IsRoot b.circuit (window_of q) t → IsEvaluable b.circuit q.signal t → IsNeededBy b q (record { signal = q.signal; time = t })
+root-needed-by b q site t root evaluable = subst (λ (s : Option Site). NeedOf b.circuit s q (record { signal = q.signal; time = t })) (sym site) (Root root evaluable)

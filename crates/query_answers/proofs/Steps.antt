@@ -1,5 +1,5 @@
 -- The steps of a strand over the batch that the memo of its own names.
-use Rattle.std.proofs.Common.{◌≡◌, ℕ, Bool, ◌+◌, ◌≤◌, true, false, List, [], ◌∷◌, ◌++◌, length, Contains, refl, sym, ap, subst, ◌∙◌, arith, inl, inr, Option, Some, None, IsSome, append_assoc, append-nil, true≢false, ◌<◌, Result, Ok, Err, OnOk, IfOk}
+use Rattle.std.proofs.Common.{◌≡◌, ℕ, Bool, ◌+◌, true, false, List, [], ◌∷◌, ◌++◌, length, Contains, refl, sym, ap, subst, ◌∙◌, arith, inl, inr, Option, Some, None, IsSome, append_assoc, append-nil, true≢false, ◌<◌, Result, Ok, Err, OnOk, IfOk}
 use Rattle.std.proofs.lemmas.List.Elements.{Contains-append_left}
 use Rattle.valid_intervals.specs.declared.Point.{Point}
 use Rattle.valid_intervals.specs.declared.SignalCell.{SignalCell}
@@ -10,7 +10,7 @@ use Rattle.circuit_meaning.specs.Forced.{IsFree}
 use Rattle.circuit_meaning.specs.Need.{IsEvaluable}
 use Rattle.journal_meaning.specs.declared.batch.Query.{Query}
 use Rattle.journal_meaning.specs.Batches.{Batch, Site, shard_number}
-use Rattle.journal_meaning.specs.Pieces.{IsStart}
+use Rattle.journal_meaning.specs.Pieces.{Start, IsStart}
 use Rattle.journal_meaning.specs.declared.Entry.{Entry}
 use Rattle.journal_meaning.specs.declared.Entry.TheVariants.{Told, Claimed, Filled, Spent}
 use Rattle.journal_meaning.specs.Answers.{IsCovered}
@@ -25,7 +25,7 @@ use Rattle.plan_machine.specs.Shards.{Shard, shard_with_entry}
 use Rattle.plan_machine.specs.Bounds.{turns_left}
 use Rattle.plan_machine.specs.Journals.{evictions_for}
 use Rattle.plan_machine.specs.Settle.{child_start, charge_of, sub_query}
-use Rattle.plan_machine.specs.Standings.{IsStanding, IsAskedFor}
+use Rattle.plan_machine.specs.Standings.{IsStanding}
 use Rattle.plan_core.specs.Parts.{shards_in}
 use Rattle.demand_points.specs.Demands.{Demand, TakesStep, IsKnownStrand, itself}
 use Rattle.memo_shards.specs.KeptShards.{KeptShard}
@@ -35,10 +35,10 @@ use Rattle.memo_shards.specs.Steps.{At, MayStep, OfStep, step_point}
 use Rattle.memo_shards.specs.declared.steps.Step.{Step}
 use Rattle.memo_shards.specs.declared.steps.Step.TheVariants as came
 use Rattle.texts.specs.declared.OutOfMemory.{OutOfMemory}
-use Rattle.plan_core.specs.asked.Asked.{HasAsked, AsksOn}
-use Rattle.plan_core.specs.asked.Memos.{entries_of, asked_at}
+use Rattle.plan_core.specs.asked.Asked.{HasAsked, AsksOn, Nothing, Needed}
+use Rattle.plan_core.specs.asked.Memos.{entries_of}
 use Rattle.plan_core.specs.asked.Standings.{standing}
-use Rattle.plan_core.proofs.Callers.{reaches, root-covered, asks-point}
+use Rattle.plan_core.proofs.Callers.{root-covered}
 use Rattle.session_meaning.specs.StuckSignals.{held_batch}
 use Rattle.query_answers.specs.stuck.Asks.{RefusedBy, Session, Own}
 use Rattle.query_answers.specs.declared.stuck.both.StuckQuery.{StuckQuery}
@@ -46,6 +46,7 @@ use Rattle.query_answers.specs.stuck.inner.Both.{IsAsked, Asks, IsGivingUpBy, Gi
 use Rattle.query_answers.specs.declared.stuck.step.AfterStep.{AfterStep}
 use Rattle.query_answers.specs.declared.stuck.step.AfterStep.TheVariants.{GoesOn, Ended, Refused}
 use Rattle.query_answers.specs.stuck.inner.Steps.{AsksFurther, IsOwnStep, IsAfterStep}
+use Rattle.query_answers.proofs.AskedOn.{has-reached}
 use Rattle.query_answers.proofs.StuckAsking.{tells-on, claims-on, spends-on, fills-on, hears-on, refuses-on}
 use Rattle.query_answers.proofs.StuckLawful.{IsAskedOf, asked-of, free-cell, free-evaluable, free-needed}
 use Rattle.query_answers.proofs.Held.{asked-one, held-lawful}
@@ -159,44 +160,40 @@ module _ (b h : Batch) (opening : ℕ → List SignalCell) (question : StuckQuer
   step-asks p e = asked-of b asked.lawful site q asked.queries s.strand p is e
 
   -- a free point is asked of the session's memo
-  module _ (p : Point) (e : next s.strand ≡ Ask p) (free : IsFree b.circuit question.site p.signal) (charge : ℕ) (counts : charge ≡ charge_of (entries_of ms) q) where
-    pub step-starts : charge ≤ q.budget → IsEvaluable b.circuit p.signal p.time → IsStart b (child_start q p charge)
-    step-starts few evaluable =
+  module _ (p : Point) (e : next s.strand ≡ Ask p) (free : IsFree b.circuit question.site p.signal) where
+    abbrev start : Start
+    start = child_start q p (charge_of (entries_of ms) q)
+
+    pub step-starts : IsEvaluable b.circuit p.signal p.time → IsStart b start
+    step-starts evaluable =
         child-start b asked.lawful q (asked-one b asked.lawful q asked.queries) p
-        (free-needed b asked.lawful site q asked.queries p free asked.site (step-asks p e).needed) evaluable charge few
+        (free-needed b asked.lawful site q asked.queries p free asked.site (step-asks p e).needed) evaluable (charge_of (entries_of ms) q) (omega arith)
 
     pub step-cell : cell_at h.circuit p ≡ cell_at b.circuit p
     step-cell = ap (λ (z : Batch). cell_at z.circuit p) asked.own_is ∙ free-cell b asked.lawful site q asked.queries p free
 
-    for : IsAskedFor q (entries_of ms) p (child_start q p charge)
-    for = subst (λ n. IsAskedFor q (entries_of ms) p (child_start q p n)) (sym counts) (child-asked q (entries_of ms) p)
-
-    module _ (new : List KeptShard) (r : Bool) (has : HasAsked b opening (asked_at (sub_query q p) p.time charge) (shards_in ms) (shards_in new) r) where
-      after : IsStanding b opening q [] asks.first (standing new r)
-      after = (reaches b asked.lawful opening q [] asks.first ms new (sub_query q p) p.time charge r asks.stands for has).0.stands
+    module _ (new : List KeptShard) where
+      after : (r : Bool) → HasAsked b opening start (shards_in ms) (shards_in new) r → IsStanding b opening q [] asks.first (standing new r)
+      after r has = (has-reached b asked.lawful opening q [] asks.first (shards_in ms) (shards_in new) r p start asks.stands (child-asked q (entries_of ms) p) has).0.stands
 
       -- it is one that the query needs
-      pub step-session : AsksOn b opening q (shards_in ms) false (shards_in new) r
-      step-session =
-          asks-point b opening q ms new charge counts r p (λ _. free-needed b asked.lawful site q asked.queries p free asked.site (step-asks p e).needed) has
+      pub step-session : (r : Bool) → HasAsked b opening start (shards_in ms) (shards_in new) r → AsksOn b opening q (shards_in ms) false (shards_in new) r
+      step-session r has = Needed Nothing p (λ _. free-needed b asked.lawful site q asked.queries p free asked.site (step-asks p e).needed) has
 
-      pub step-kept : AreKept (entries_of ms) (entries_of new)
-      step-kept = has.journals.together.old_stay
+      pub step-kept : (r : Bool) → HasAsked b opening start (shards_in ms) (shards_in new) r → AreKept (entries_of ms) (entries_of new)
+      step-kept r has = has.journals.together.old_stay
 
-      pub step-heard : r ≡ false → (t : Demand) → TakesStep after_answer s t → AsksFurther b opening h question time new m s t
-      step-heard lacks t f =
-          let whole = subst (HasAsked b opening (asked_at (sub_query q p) p.time charge) (shards_in ms) (shards_in new)) lacks has in
-          over new m t (hears-on b opening question time asked.lawful asked.queries ms m s asks is new asks.first (subst (λ z. IsStanding b opening q [] asks.first (standing new z)) lacks after) step-kept t p e free
-          (said (root-covered b opening (sub_query q p) p.time charge (shards_in ms) (shards_in new) whole)) f)
+      pub step-heard : HasAsked b opening start (shards_in ms) (shards_in new) false → (t : Demand) → TakesStep after_answer s t → AsksFurther b opening h question time new m s t
+      step-heard has t f =
+          over new m t (hears-on b opening question time asked.lawful asked.queries ms m s asks is new asks.first (after false has) (step-kept false has) t p e free
+          (said (root-covered b opening (sub_query q p) p.time (charge_of (entries_of ms) q) (shards_in ms) (shards_in new) has)) f)
         where
           said : IsCovered b.circuit (entries_of new) p → IsSaid (entries_of new) p
           said (inl never) = absurd (never (free-evaluable b asked.lawful site q asked.queries p free (step-asks p e).evaluable))
           said (inr k) = k
 
-      pub step-refused : r ≡ true → (t : Demand) → TakesStep given_up s t → GivesUp b question time new m t Session
-      step-refused lacks t f =
-          refuses-on b opening question time asked.lawful asked.queries ms m s asks is new t
-          (subst (λ z. IsStanding b opening q [] asks.first (standing new z)) lacks after).state.0 f
+      pub step-refused : HasAsked b opening start (shards_in ms) (shards_in new) true → (t : Demand) → TakesStep given_up s t → GivesUp b question time new m t Session
+      step-refused has t f = refuses-on b opening question time asked.lawful asked.queries ms m s asks is new t (after true has).state.0 f
 
 -- entries that come after others keep them
 pub extends-kept : (old new : List Entry) → Extends old new → AreKept old new

@@ -1,7 +1,7 @@
 -- The steps of a strand that asks for a time.
-use Rattle.std.proofs.Common.{◌≡◌, ◌≢◌, ℕ, Bool, ◌&&◌, not, nat_eq, nat_le, nat_lt, ◌+◌, ◌<◌, true, false, cond, List, [], ◌∷◌, ◌++◌, length, Contains, AllPairs, refl, sym, ap, subst, ◌∙◌, arith, inl, inr, append_assoc, Option, Some, None, eq-eqb}
+use Rattle.std.proofs.Common.{◌≡◌, ◌≢◌, ℕ, Bool, ◌&&◌, not, nat_eq, ◌+◌, ◌<◌, true, false, cond, List, [], ◌∷◌, ◌++◌, length, Contains, AllPairs, refl, sym, ap, subst, ◌∙◌, arith, inl, inr, append_assoc, Option, Some, None, eq-eqb}
 use Rattle.std.specs.List.{AllByRecursion}
-use Rattle.std.proofs.lemmas.Bool.{and_parts, and_from, le-leb, lt-ltb}
+use Rattle.std.proofs.lemmas.Bool.{and_from, le-leb, lt-ltb}
 use Rattle.std.proofs.lemmas.List.Elements.{Contains-append_right, Contains-append_cases, All-nil}
 use Rattle.gate_values.specs.declared.Value.TheVariants.{X}
 use Rattle.valid_intervals.specs.declared.Cell.{Cell}

@@ -1,12 +1,11 @@
 -- A window that is walked from cell to cell, over shards in which nothing was recorded.
-use Rattle.std.proofs.Common.{◌≡◌, ℕ, ◌+◌, ◌<◌, ◌≤◌, Bool, true, false, List, [], ◌∷◌, All, Contains, length, Option, Some, None, refl, sym, ap, subst, ◌∙◌, arith, inl, inr}
+use Rattle.std.proofs.Common.{◌≡◌, ℕ, ◌+◌, ◌<◌, ◌≤◌, Bool, true, false, List, [], ◌∷◌, Contains, length, Option, Some, None, refl, sym, ap, subst, ◌∙◌, arith, inl, inr}
 use Rattle.std.proofs.lemmas.Bool.{cases_lt}
 use Rattle.std.proofs.lemmas.List.Elements.{All-contains}
 use Rattle.gate_values.specs.declared.Value.{Value}
 use Rattle.gate_values.specs.Gates.{same_value}
 use Rattle.valid_intervals.specs.declared.Point.{Point}
 use Rattle.valid_intervals.specs.declared.SignalCell.{SignalCell}
-use Rattle.circuit_meaning.specs.Forward.{value}
 use Rattle.circuit_meaning.specs.Cells.{span}
 use Rattle.circuit_meaning.specs.Need.{IsRoot, IsEvaluable, Root, First}
 use Rattle.circuit_meaning.proofs.Callers.{cell-covers, cell-steady}
@@ -20,15 +19,16 @@ use Rattle.journal_meaning.specs.Pieces.{IsStart}
 use Rattle.session_meaning.specs.FirstTimes.{stop_at, up_to_first, IsFirstOutcome}
 use Rattle.session_meaning.specs.declared.Verdict.TheVariants.{Ask}
 use Rattle.reply_lines.specs.declared.reply.Outcome.TheVariants.{Answer, Budget}
-use Rattle.plan_machine.specs.Settle.{sub_query, child_start, charge_of, journals_of}
-use Rattle.plan_machine.specs.Standings.{IsStanding, IsOpen, IsAskedFor, Reaches, IsCoveredTo}
+use Rattle.plan_machine.specs.Settle.{child_start, charge_of, journals_of}
+use Rattle.plan_machine.specs.Standings.{IsStanding, IsOpen, Reaches, IsCoveredTo}
 use Rattle.plan_machine.proofs.Callers.{child-start, child-asked, begins-query, settles-closed, window-step, contains-none}
 use Rattle.memo_shards.specs.KeptShards.{KeptShard}
 use Rattle.plan_core.specs.Parts.{shards_in}
-use Rattle.plan_core.specs.asked.Memos.{AreFreeShards, entries_of, asked_at}
-use Rattle.plan_core.specs.asked.Asked.{HasAsked, AsksOn}
+use Rattle.plan_core.specs.asked.Memos.{AreFreeShards, entries_of}
+use Rattle.plan_core.specs.asked.Asked.{HasAsked, AsksOn, Nothing, Needed}
 use Rattle.plan_core.specs.asked.Standings.{live, standing}
-use Rattle.plan_core.proofs.Callers.{reaches, asks-then, asks-point}
+use Rattle.plan_core.proofs.Callers.{asks-then}
+use Rattle.query_answers.proofs.AskedOn.{has-reached}
 use Rattle.query_answers.proofs.Finding.{has, NoneBefore, first-here, first-none, goes-on}
 
 module _ (b : Batch) (opening : ℕ → List SignalCell) (q : Query) (w : Value) where
@@ -63,16 +63,12 @@ module _ (b : Batch) (lawful : IsLawful b) (opening : ℕ → List SignalCell) (
   pub in-time : (t : ℕ) → NoneBefore b.circuit q w t → t < q.to → t ≤ b.circuit.horizon
   in-time t none before = let k = goes-on b.circuit q w t none before in let l = within in omega arith
 
-  -- a time that is asked for by its cell alone
-  abbrev pub instant : ℕ → Query
-  instant t = sub_query until (record { signal = q.signal; time = t })
-
   -- a strand may start with a root
-  pub root-start : b.site ≡ None → (t charge : ℕ) → IsRoot b.circuit (window_of until) t → charge ≤ q.budget → IsEvaluable b.circuit q.signal t → IsStart b (child_start until (record { signal = q.signal; time = t }) charge)
-  root-start site t charge root low evaluable =
+  pub root-start : b.site ≡ None → (t : ℕ) (es : List Entry) → IsRoot b.circuit (window_of until) t → IsEvaluable b.circuit q.signal t → IsStart b (child_start q (record { signal = q.signal; time = t }) (charge_of es q))
+  root-start site t es root evaluable =
       let x : Point = record { signal = q.signal; time = t } in
       let need : IsNeededBy b until x = subst (λ (s : Option Site). NeedOf b.circuit s until x) (sym site) (Root root evaluable) in
-      child-start b lawful until known x need evaluable charge low
+      child-start b lawful until known x need evaluable (charge_of es q) (omega arith)
 
   pub begins : (ms : List KeptShard) → AreFreeShards b opening ms → entries_of ms ≡ [] → Walking ms ms q.from
   begins ms kept unused = record {
@@ -89,33 +85,34 @@ module _ (b : Batch) (lawful : IsLawful b) (opening : ℕ → List SignalCell) (
   }
 
   -- one time more is asked for
-  pub asks-more : b.site ≡ None → (first old new : List KeptShard) (t charge : ℕ) (r : Bool) → IsRoot b.circuit (window_of until) t → charge ≡ charge_of (entries_of old) q → AsksOn b opening until (shards_in first) false (shards_in old) false
-      → HasAsked b opening (asked_at (instant t) t charge) (shards_in old) (shards_in new) r → AsksOn b opening until (shards_in first) false (shards_in new) r
-  asks-more site first old new t charge r root counts before h =
+  pub asks-more : b.site ≡ None → (first old new : List KeptShard) (t : ℕ) (r : Bool) → IsRoot b.circuit (window_of until) t → AsksOn b opening until (shards_in first) false (shards_in old) false
+      → HasAsked b opening (child_start q (record { signal = q.signal; time = t }) (charge_of (entries_of old) q)) (shards_in old) (shards_in new) r → AsksOn b opening until (shards_in first) false (shards_in new) r
+  asks-more site first old new t r root before h =
       let x : Point = record { signal = q.signal; time = t } in
       let need : IsEvaluable b.circuit q.signal t → IsNeededBy b until x = λ evaluable. subst (λ (s : Option Site). NeedOf b.circuit s until x) (sym site) (Root root evaluable) in
-      asks-then b opening until (shards_in first) false (shards_in old) (shards_in new) r before (asks-point b opening until old new charge counts r x need h)
+      asks-then b opening until (shards_in first) false (shards_in old) (shards_in new) r before (Needed Nothing x need h)
 
-  module _ (first old new : List KeptShard) (t charge : ℕ) (k : Walking first old t) (before : t < q.to) (counts : charge ≡ charge_of (entries_of old) q) where
+  module _ (first old new : List KeptShard) (t : ℕ) (k : Walking first old t) (before : t < q.to) where
     abbrev x : Point
     x = record { signal = q.signal; time = t }
 
     low : t < until.to
     low = goes-on b.circuit q w t k.none before
 
-    asks : IsAskedFor until (entries_of old) x (child_start until x charge)
-    asks = subst (λ n. IsAskedFor until (entries_of old) x (child_start until x n)) (sym counts) (child-asked until (entries_of old) x)
+    -- a strand was started for the cell at t, and came to its end or was refused
+    abbrev Asks : Bool → Type 0
+    Asks r = HasAsked b opening (child_start q x (charge_of (entries_of old) q)) (shards_in old) (shards_in new) r
 
     -- the cell at t was asked for
-    pub reached : (r : Bool) → HasAsked b opening (asked_at (sub_query until x) t charge) (shards_in old) (shards_in new) r → Reaches b opening until [] (shards_in first) (live old) x (standing new r)
-    reached r h = reaches b lawful opening until [] (shards_in first) old new (sub_query until x) t charge r k.stands asks h
+    pub reached : (r : Bool) → Asks r → Reaches b opening until [] (shards_in first) (live old) x (standing new r)
+    reached r h = has-reached b lawful opening until [] (shards_in first) (shards_in old) (shards_in new) r x (child_start until x (charge_of (entries_of old) until)) k.stands (child-asked until (entries_of old) x) h
 
     -- the journals from the first shards on
-    pub journals-of-reach : (r : Bool) → HasAsked b opening (asked_at (sub_query until x) t charge) (shards_in old) (shards_in new) r → (added : List Entry) × AreAdded (journals_of (shards_in first)) added (journals_of (shards_in new))
+    pub journals-of-reach : (r : Bool) → Asks r → (added : List Entry) × AreAdded (journals_of (shards_in first)) added (journals_of (shards_in new))
     journals-of-reach r h = let s = (reached r h).0.stands in (s.added, s.journals)
 
     -- it has another value
-    pub goes-by : HasAsked b opening (asked_at (sub_query until x) t charge) (shards_in old) (shards_in new) false → has b.circuit q w t ≡ false → Walking first new (span b.circuit q.signal t).stop
+    pub goes-by : Asks false → has b.circuit q w t ≡ false → Walking first new (span b.circuit q.signal t).stop
     goes-by h other =
         let one = reached false h in
         let s = window-step b lawful opening until known [] (shards_in first) (live old) (standing new false) t low (k.root low) k.covered one in
@@ -136,7 +133,7 @@ module _ (b : Batch) (lawful : IsLawful b) (opening : ℕ → List SignalCell) (
         }
 
     -- it is the first with the value
-    pub ends-here : HasAsked b opening (asked_at (sub_query until x) t charge) (shards_in old) (shards_in new) false → has b.circuit q w t ≡ true → IsFirstOutcome b.circuit (entries_of new) w (Ask q) (Answer (Some t))
+    pub ends-here : Asks false → has b.circuit q w t ≡ true → IsFirstOutcome b.circuit (entries_of new) w (Ask q) (Answer (Some t))
     ends-here h is =
         let one = reached false h in
         let s = window-step b lawful opening until known [] (shards_in first) (live old) (standing new false) t low (k.root low) k.covered one in
@@ -146,7 +143,7 @@ module _ (b : Batch) (lawful : IsLawful b) (opening : ℕ → List SignalCell) (
         (here, (settles-closed b lawful until within [] (entries_of new) one.0.stands.state (λ p y m. absurd (contains-none _ [] refl m)) (span b.circuit q.signal t).stop (s.covered refl) (omega arith)).0)
 
     -- the query was refused
-    pub ends-refused : HasAsked b opening (asked_at (sub_query until x) t charge) (shards_in old) (shards_in new) true → IsFirstOutcome b.circuit (entries_of new) w (Ask q) (Budget q.budget)
+    pub ends-refused : Asks true → IsFirstOutcome b.circuit (entries_of new) w (Ask q) (Budget q.budget)
     ends-refused h = (refl, (reached true h).0.stands.state.0)
 
   -- no cell has the value

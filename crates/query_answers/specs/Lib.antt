@@ -1,3 +1,4 @@
+pub mod asking
 pub mod windows
 pub mod explanations
 pub mod stuck

@@ -9,7 +9,7 @@
 //! `plan_core::asked`).
 //!
 //! A point that has a base answer is explained by no line. For any other, its cell is the last line. What a cell comes from is asked for at
-//! the time at which the cell was asked for (`reach` of `plan_core::asked`): the pins of its gate, one after another, up to the first that
+//! the time at which the cell was asked for (`Asking::cell`): the pins of its gate, one after another, up to the first that
 //! decides. What has no base answer among that is a line too. A told cell was evaluated in an earlier batch, so what it comes from may have
 //! left the memo, and is then evaluated again.
 //!

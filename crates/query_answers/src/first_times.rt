@@ -1,7 +1,7 @@
 //! The answer to the question when a signal first has a value, asked of the memo.
 //!
 //! [`first_time`] returns the time in a query's window at which its signal first has a given value, over shards without entries. It asks
-//! for one cell after another, each by its first time, from the start of the window (`reach` of `plan_core::asked`). It stops at the first
+//! for one cell after another, each by its first time, from the start of the window (`Asking::cell`). It stops at the first
 //! cell that has the value, and asks for nothing after it. The entries then close the query up to the returned time, and no further
 //! (`IsFirstOutcome` of `session_meaning`). If the value does not occur, they close the whole window. If the answer would take more
 //! evaluations than the query's budget, the outcome is the budget, and the entries hold the cause. Each cell is asked for under the

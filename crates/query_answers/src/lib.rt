@@ -11,10 +11,12 @@
 //! entries hold the cause. The journals stay legal, and no claim is left. Each strand that is started here serves a point that the query
 //! needs, is charged with what the query filled so far, and none is started after a refusal.
 //!
-//! All rooms ask for cells by `plan_core::asked`, where a strand runs alone, so they start no thread. Only a batch has strands that others
-//! may run before: `windows` makes these, and settles what is left of them. No room stands on another.
+//! All rooms ask for cells by an `Asking` (`src/asking.rt`), which owns the memo and knows what the query is charged. It asks by
+//! `plan_core::asked`, where a strand runs alone, so no room starts a thread. Only a batch has strands that others may run before:
+//! `windows` makes these, and settles what is left of them. No other room stands on another.
 #![tactic(auto)]
 
+mod asking;
 pub mod explanations;
 pub mod first_times;
 pub mod stuck;

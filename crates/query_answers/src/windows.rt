@@ -4,9 +4,9 @@
 //! [`strands_of`] makes the strands of a batch's queries, one for each piece of each window. A caller runs these over the shards
 //! (`plan_core`, `worker_gate`), completely or in part. Then [`settle`] alone answers every query:
 //! - It frees the claims that are left.
-//! - For each query in order it visits the points that the query had filled before settlement. `plan_core::asked` finds the cell of each
-//!   looked pin among the base answers and the cells that entries of the batch say, or asks for it by a strand that runs alone. If `heard`
-//!   is true, the visits are left out, and the points are only counted: the caller knows that each evaluated point has heard its children.
+//! - For each query in order it visits the points that the query had filled before settlement. An `Asking` (`src/asking.rt`) finds the cell
+//!   of each looked pin among the base answers and the cells that entries of the batch say, or asks for it by a strand alone. If `heard` is
+//!   true, the visits are left out, and the points are only counted: the caller knows that each evaluated point has heard its children.
 //!   Where the caller hands over what was noted of the entries (`Said` of `plan_core::asked`), it is not noted and counted again.
 //! - For each query in order it walks the window from cell to cell in the same way, and gathers its runs.
 //!

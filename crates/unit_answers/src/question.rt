@@ -20,7 +20,7 @@ use crate::asked::{Asked, Prepared, prepare};
 use crate::run::{begin_all, end_all, no_entries};
 use crate::sizes::Sizes;
 use cell_store::CellStore;
-use demand_points::BatchName;
+use demand_points::{BatchDesign, BatchName};
 use journal_text::EntryList;
 use memo_shards::Shard;
 use query_answers::explanations::explain;
@@ -78,9 +78,10 @@ fn ask<B: BatchName>(
 {
     let plain = design.design();
     plain.facts();
+    let named = BatchDesign::<B>::new(plain);
     match &question.asks {
         Asks::First(value) => {
-            let found = first_time(alloc, plain, shards, asked.query, *value)?;
+            let found = first_time(alloc, named, shards, asked.query, *value)?;
             Ok(Answered {
                 reply: QuestionReply::First(found.outcome),
                 own_lists: Vec::new(alloc),
@@ -88,7 +89,7 @@ fn ask<B: BatchName>(
             })
         }
         Asks::Why => {
-            let found = explain(alloc, plain, shards, asked.query)?;
+            let found = explain(alloc, named, shards, asked.query)?;
             Ok(Answered {
                 reply: QuestionReply::Why(found.outcome),
                 own_lists: Vec::new(alloc),

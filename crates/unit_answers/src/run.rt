@@ -9,7 +9,7 @@ ghost use Rattle.unit_answers.specs.inner.Runs.{asks, IsNamed, AreOpened, AreBeg
 
 use crate::sizes::Sizes;
 use cell_store::CellStore;
-use demand_points::BatchName;
+use demand_points::{BatchDesign, BatchName};
 use design::Design;
 use journal_meaning::Query;
 use journal_text::EntryList;
@@ -82,6 +82,7 @@ pub fn run_batch<B: BatchName + Send + Sync, C: Crew>(
     ensures crewed { IfOk result (λ run. HasCrewed (flat_map pieces queries.now)
         (C.is_open crew.now) run.lists.items) }
 {
+    let design = BatchDesign::<B>::new(design);
     let begun = begin_all::<B>(alloc, stores)?;
     let strands = strands_of::<B>(alloc, queries)?;
     let ran = crew.run(alloc, design, begun, strands)?;

@@ -14,8 +14,7 @@ use crate::in_turn::{end_in_turn, make_turns, run_alone};
 use crate::lines::{lines_alone, lines_of};
 use crate::ran::Ran;
 use crate::run::run_workers;
-use demand_points::{BatchName, Strand};
-use design::Design;
+use demand_points::{BatchDesign, BatchName, Strand};
 use journal_meaning::Entry;
 use memo_shards::Shard;
 use std::alloc::Global;
@@ -51,11 +50,10 @@ pub trait Crew {
     final fn run<B: BatchName + Send + Sync>(
         &self,
         alloc: Global,
-        design: &Design,
+        design: BatchDesign<'_, B>,
         shards: Vec<Shard<B>>,
         strands: Vec<Strand<B>>,
     ) -> Result<Ran<B>, OutOfMemory>
-        requires design { design.now.circuit ≡ B.batch.circuit }
         requires named { vec_len shards ≡ B.batch.shards }
         requires some { 0 < vec_len shards }
         requires most { vec_len shards ≤ 64 }

@@ -12,8 +12,7 @@ ghost use Rattle.plan_core.specs.asked.Memos.{entries_of};
 ghost use Rattle.worker_gate.specs.Heard.{HaveHeard};
 ghost use Rattle.worker_gate.specs.Said.{AreJoined};
 
-use demand_points::BatchName;
-use design::Design;
+use demand_points::{BatchDesign, BatchName};
 use memo_shards::{Shard, know_all};
 use plan_core::asked::{Places, Said, has_heard};
 use std::alloc::Global;
@@ -76,14 +75,13 @@ fn read_all<B: BatchName + Send + Sync, R: Threads + Sync>(
 
 /// Whether what was evaluated has heard its children, in each shard whose number leaves this remainder.
 fn share_has_heard<B: BatchName>(
-    design: &Design,
+    design: BatchDesign<'_, B>,
     shards: &[Shard<B>],
     places: &[Places],
     remainder: usize,
     divisor: usize,
 ) -> bool
     requires lawful { IsLawful B.batch }
-    requires design { design.now.circuit ≡ B.batch.circuit }
     requires known { All (IsKnownShard B.batch B.opening) shards.now }
     requires some { 0 < divisor }
     ensures { result ≡ true → HaveHeard B.batch.circuit shards.now divisor remainder }
@@ -100,13 +98,12 @@ fn share_has_heard<B: BatchName>(
 fn looks<B: BatchName + Send + Sync, R: Threads + Sync>(
     rt: &R,
     alloc: Global,
-    design: &Design,
+    design: BatchDesign<'_, B>,
     shards: &[Shard<B>],
     places: &[Places],
     threads: usize,
 ) -> Result<Vec<bool>, OutOfMemory>
     requires lawful { IsLawful B.batch }
-    requires design { design.now.circuit ≡ B.batch.circuit }
     requires known { All (IsKnownShard B.batch B.opening) shards.now }
     requires some { 0 < threads }
     ensures count { IfOk result (λ v. vec_len v ≡ threads) }
@@ -118,8 +115,8 @@ fn looks<B: BatchName + Send + Sync, R: Threads + Sync>(
         alloc,
         threads,
         &|remainder: usize| -> bool
-            requires { IsLawful B.batch × (design.now.circuit ≡ B.batch.circuit)
-                × All (IsKnownShard B.batch B.opening) shards.now × (0 < threads) }
+            requires { IsLawful B.batch × All (IsKnownShard B.batch B.opening) shards.now
+                × (0 < threads) }
             ensures { result ≡ true → HaveHeard B.batch.circuit shards.entry.now threads remainder }
         { share_has_heard(design, shards, places, remainder, threads) },
     )?;
@@ -146,11 +143,10 @@ pub struct Look {
 pub fn look_at_all<B: BatchName + Send + Sync, R: Threads + Sync>(
     rt: &R,
     alloc: Global,
-    design: &Design,
+    design: BatchDesign<'_, B>,
     shards: &[Shard<B>],
     workers: usize,
 ) -> Result<Look, OutOfMemory>
-    requires design { design.now.circuit ≡ B.batch.circuit }
     requires shards { 0 < length shards.now }
     requires workers { 0 < workers }
     ensures said { IfOk result (λ look. HaveCounted (entries_in (shards_in shards.now))

@@ -9,8 +9,7 @@ ghost use Rattle.worker_gate.specs.Ends.{AreEnds, AreFilled, AreNew, AreNumbered
 
 use crate::board::booked_of;
 use crate::ran::{CountList, EndedList, Ran, ShardList};
-use demand_points::{BatchName, Strand};
-use design::Design;
+use demand_points::{BatchDesign, BatchName, Strand};
 use memo_shards::{Shard, know_all};
 use plan_core::run_in_turn;
 use std::alloc::Global;
@@ -21,10 +20,9 @@ use texts::OutOfMemory;
 pub fn make_turns<B: BatchName>(
     strands: &mut [Strand<B>],
     shards: &mut [Shard<B>],
-    design: &Design,
+    design: BatchDesign<'_, B>,
     most: Option<u64>,
 ) -> Result<Option<bool>, OutOfMemory>
-    requires design { design.now.circuit ≡ B.batch.circuit }
     requires named { length shards.old ≡ B.batch.shards }
     requires some { 0 < length shards.old }
     requires order { AreInOrder shards.old }
@@ -97,11 +95,10 @@ pub fn end_in_turn<B: BatchName>(
 /// Runs the strands over the shards, one after another until each has ended.
 pub fn run_alone<B: BatchName>(
     alloc: Global,
-    design: &Design,
+    design: BatchDesign<'_, B>,
     shards: Vec<Shard<B>>,
     strands: Vec<Strand<B>>,
 ) -> Result<Ran<B>, OutOfMemory>
-    requires design { design.now.circuit ≡ B.batch.circuit }
     requires named { vec_len shards ≡ B.batch.shards }
     requires some { 0 < vec_len shards }
     requires order { AreInOrder shards.items }

@@ -52,7 +52,7 @@
 //!
 //! ```
 //! let crew = Workers::new(&rt, &OpenGate, 4);
-//! let ran = crew.run(alloc, &design, shards, strands)?;
+//! let ran = crew.run(alloc, design, shards, strands)?;
 //! let strand = ran.strands.strand(0);
 //! let shards = ran.shards.into_vec();
 //! ```

@@ -17,8 +17,7 @@ use crate::ran::{CountList, EndedList, Ran, ShardList};
 use crate::slot::{CountedShard, Slot};
 use crate::worker::{LockedShard, Shared, Worker};
 use crossbeam_utils::CachePadded;
-use demand_points::{BatchName, Strand, Task};
-use design::Design;
+use demand_points::{BatchDesign, BatchName, Strand, Task};
 use memo_shards::Shard;
 use ready_queue::{QueuePass, ReadyQueue};
 use std::alloc::Global;
@@ -175,12 +174,11 @@ fn jobs_of<B: BatchName>(
 // Runs the workers. True where one was told to leave.
 fn all_run<B: BatchName + Send + Sync, G: Gate, R: Threads + Wait + Sync>(
     rt: &R,
-    design: &Design,
+    design: BatchDesign<'_, B>,
     shared: &Shared<B>,
     gate: &G,
     jobs: Vec<Job<B>>,
 ) -> Result<bool, OutOfMemory>
-    requires design { design.now.circuit ≡ B.batch.circuit }
     requires passes { All (λ job. IsPassOf shared.now.queue job.pass) jobs.items }
     ensures { IfOk result (λ left. G.is_open gate.now ≡ true → left ≡ false) }
 {
@@ -188,7 +186,7 @@ fn all_run<B: BatchName + Send + Sync, G: Gate, R: Threads + Wait + Sync>(
         rt,
         jobs,
         &|job: Job<B>| -> bool
-            requires { (design.now.circuit ≡ B.batch.circuit) × IsPassOf shared.now.queue job.pass }
+            requires { IsPassOf shared.now.queue job.pass }
             ensures { G.is_open gate.entry.now ≡ true → result ≡ false }
         {
             let worker = Worker {
@@ -206,12 +204,11 @@ fn all_run<B: BatchName + Send + Sync, G: Gate, R: Threads + Wait + Sync>(
 pub fn run_workers<B: BatchName + Send + Sync, G: Gate, R: Threads + Wait + Sync>(
     rt: &R,
     alloc: Global,
-    design: &Design,
+    design: BatchDesign<'_, B>,
     begun: Begun<B>,
     workers: u32,
     gate: &G,
 ) -> Result<Ran<B>, OutOfMemory>
-    requires design { design.now.circuit ≡ B.batch.circuit }
     requires named { vec_len begun.shards ≡ B.batch.shards }
     requires shards { (0 < vec_len begun.shards) × (vec_len begun.shards ≤ 64) }
     requires strands { vec_len begun.tasks ≤ 256 }

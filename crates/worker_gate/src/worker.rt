@@ -12,8 +12,7 @@ use crate::board::Board;
 use crate::gate::{Gate, Pass};
 use crate::slot::Slot;
 use crossbeam_utils::CachePadded;
-use demand_points::{BatchName, Strand};
-use design::Design;
+use demand_points::{BatchDesign, BatchName, Strand};
 use memo_shards::{Grant, Request, Step, follow, request_of, shard_number};
 use plan_machine::Next;
 use ready_queue::{QueuePass, ReadyQueue};
@@ -80,8 +79,11 @@ fn take_lock<'a, T, R: Wait>(rt: &R, lock: &'a Mutex<T>) -> MutexGuard<'a, T> {
 }
 
 // Lets the strand follow what was granted, after the lock. A strand that is refused memory for its claim has none: the batch ends.
-fn end_turn<B: BatchName>(strand: Strand<B>, design: &Design, grant: Grant<B>) -> TurnEnd<B>
-    requires design { design.now.circuit ≡ B.batch.circuit }
+fn end_turn<B: BatchName>(
+    strand: Strand<B>,
+    design: BatchDesign<'_, B>,
+    grant: Grant<B>,
+) -> TurnEnd<B>
     requires granted { IsGranted B.batch strand grant }
 {
     let mut strand = strand;
@@ -227,12 +229,11 @@ impl<B: BatchName> Shared<B> {
     fn turn<G: Gate, R: Wait>(
         &self,
         rt: &R,
-        design: &Design,
+        design: BatchDesign<'_, B>,
         worker: &Worker<'_, G>,
         strand: Strand<B>,
         next: Next,
     ) -> TurnEnd<B>
-        requires design { design.now.circuit ≡ B.batch.circuit }
         requires next { next_of strand.strand ≡ next }
     {
         let Some(request) = request_of(&strand, design, next) else {
@@ -260,12 +261,11 @@ impl<B: BatchName> Shared<B> {
     fn run<G: Gate, R: Wait>(
         &self,
         rt: &R,
-        design: &Design,
+        design: BatchDesign<'_, B>,
         worker: &Worker<'_, G>,
         pass: &mut QueuePass<Strand<B>>,
         strand: Strand<B>,
     ) -> bool
-        requires design { design.now.circuit ≡ B.batch.circuit }
         requires queue { IsPassOf self.now.queue pass.old }
         ensures queue { IsPassOf self.now.queue pass.new }
         ensures stays { G.is_open worker.now.gate.now ≡ true → result ≡ false }
@@ -297,11 +297,10 @@ impl<B: BatchName> Shared<B> {
     pub fn work<G: Gate, R: Wait>(
         &self,
         rt: &R,
-        design: &Design,
+        design: BatchDesign<'_, B>,
         worker: &Worker<'_, G>,
         pass: QueuePass<Strand<B>>,
     ) -> bool
-        requires design { design.now.circuit ≡ B.batch.circuit }
         requires queue { IsPassOf self.now.queue pass }
         ensures { G.is_open worker.now.gate.now ≡ true → result ≡ false }
     {

@@ -27,8 +27,7 @@ use crate::asked::places::Places;
 use crate::asked::reading::{free_all, index_of, places_in, said_for};
 use crate::asked::wanted::Wanted;
 use crate::{Alone, Plan};
-use demand_points::{BatchName, Strand};
-use design::Design;
+use demand_points::{BatchDesign, BatchName, Strand};
 use journal_meaning::{Entry, Query};
 use memo_shards::{Shard, know_all};
 use std::alloc::Global;
@@ -251,14 +250,13 @@ fn read_new<B: BatchName>(
 /// Runs a strand alone for one time of a query; whether it was refused.
 fn run_one<B: BatchName>(
     alloc: Global,
-    design: &Design,
+    design: BatchDesign<'_, B>,
     shards: Vec<Shard<B>>,
     query: Query,
     time: u32,
     charge: u32,
 ) -> Result<(Vec<Shard<B>>, bool), OutOfMemory>
     requires lawful { IsLawful B.batch }
-    requires design { design.now.circuit ≡ B.batch.circuit }
     requires numbers { AreNumbered shards.items }
     requires fresh { IsFresh B.batch B.opening (shards_in shards.items) }
     requires start { IsStart B.batch (asked_at query time charge) }
@@ -278,13 +276,12 @@ fn run_one<B: BatchName>(
 /// Asks for one time of a query; whether it was refused.
 fn ask<B: BatchName>(
     memo: &mut Memo<B>,
-    design: &Design,
+    design: BatchDesign<'_, B>,
     query: Query,
     time: u32,
     charge: &mut u32,
 ) -> Result<bool, OutOfMemory>
     requires lawful { IsLawful B.batch }
-    requires design { design.now.circuit ≡ B.batch.circuit }
     requires asking { IsChargedMemo B.batch B.opening memo.old query charge.old }
     requires start { IsStart B.batch (asked_at query time charge.old) }
     ensures asking { OnOk result (IsChargedMemo B.batch B.opening memo.new query charge.new) }
@@ -314,13 +311,12 @@ fn ask<B: BatchName>(
 /// The cell at one time of a query, asked for where no entry says it; none where the query is refused.
 pub fn reach<B: BatchName>(
     memo: &mut Memo<B>,
-    design: &Design,
+    design: BatchDesign<'_, B>,
     query: Query,
     time: u32,
     charge: &mut u32,
 ) -> Result<Option<Cell>, OutOfMemory>
     requires lawful { IsLawful B.batch }
-    requires design { design.now.circuit ≡ B.batch.circuit }
     requires signal { query.signal < length B.batch.circuit.drivers }
     requires time { time ≤ B.batch.circuit.horizon }
     requires asking { IsChargedMemo B.batch B.opening memo.old query charge.old }
@@ -332,7 +328,7 @@ pub fn reach<B: BatchName>(
     ensures asked { IfOk result (λ r. HasAsked B.batch B.opening (asked_at query time charge.old)
         (shards_in memo.old) (shards_in memo.new) (is_missing r)) }
 {
-    if let Some(cell) = design.base(query.signal, time) {
+    if let Some(cell) = design.design().base(query.signal, time) {
         return Ok(Some(cell));
     }
     let p = Point {

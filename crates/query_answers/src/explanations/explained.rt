@@ -11,17 +11,17 @@ ghost use Rattle.plan_machine.specs.Settle.{entries_in, journals_of};
 ghost use Rattle.plan_core.specs.Parts.{shards_in};
 ghost use Rattle.plan_core.specs.asked.Asked.{AsksOn, AsksFreed};
 ghost use Rattle.plan_core.specs.asked.Shards.{AreNumbered, AreUnused};
-ghost use Rattle.plan_core.specs.asked.Memos.{AreFreeShards, entries_of};
+ghost use Rattle.plan_core.specs.asked.Memos.{entries_of};
 ghost use Rattle.reply_lines.specs.Replies.{is_budget};
 
+use crate::asking::Asking;
 use crate::explanations::children::hear;
 use crate::explanations::lines::gather;
 use crate::explanations::waiting::Waiting;
-use demand_points::BatchName;
-use design::Design;
+use demand_points::{BatchDesign, BatchName};
 use journal_meaning::Query;
 use memo_shards::Shard;
-use plan_core::asked::{Memo, Wanted, begin};
+use plan_core::asked::{Wanted, begin};
 use reply_lines::{Explanation, Outcome};
 use std::alloc::Global;
 use texts::OutOfMemory;
@@ -38,34 +38,31 @@ pub struct Explained<B: BatchName> {
 /// Asks for the one time of a query, and gathers the lines of its cell.
 fn gather_answer<B: BatchName>(
     alloc: Global,
-    memo: &mut Memo<B>,
-    design: &Design,
+    asking: &mut Asking<'_, B>,
     query: Query,
 ) -> Result<Outcome<Explanation>, OutOfMemory>
-    requires lawful { IsLawful B.batch }
     requires site { B.batch.site ≡ None }
-    requires design { design.now.circuit ≡ B.batch.circuit }
     requires queries { B.batch.queries ≡ query ∷ [] }
     requires window { query.to ≡ query.from + 1 }
-    requires kept { AreFreeShards B.batch B.opening memo.old }
-    requires unused { entries_of memo.old ≡ [] }
-    ensures kept { OnOk result (AreFreeShards B.batch B.opening memo.new) }
-    ensures journals { OnOk result ((added : List EntryRecord) ×
-        AreAdded (journals_of (shards_in memo.old)) added (journals_of (shards_in memo.new))) }
-    ensures outcome { IfOk result (IsExplained B.batch.circuit (entries_of memo.new) (Ask query)) }
-    ensures asks { IfOk result (λ outcome. AsksOn B.batch B.opening query (shards_in memo.old)
-        false (shards_in memo.new) (is_budget outcome)) }
+    requires unused { entries_of asking.old.memo ≡ [] }
+    ensures journals { OnOk result ((added : List EntryRecord) × AreAdded
+        (journals_of (shards_in asking.old.memo)) added (journals_of (shards_in asking.new.memo))) }
+    ensures outcome { IfOk result (IsExplained B.batch.circuit (entries_of asking.new.memo)
+        (Ask query)) }
+    ensures asks { IfOk result (λ outcome. AsksOn B.batch B.opening query
+        (shards_in asking.old.memo) false (shards_in asking.new.memo) (is_budget outcome)) }
 {
+    asking.facts();
+    asking.turn_to(query, 0)?;
     let mut waiting = Waiting::new(alloc);
-    let mut charge = 0;
     let point = Point {
         signal: query.signal,
         time: query.from,
     };
-    let Some(cell) = hear(memo, design, query, point, &mut waiting, &mut charge)? else {
+    let Some(cell) = hear(asking, point, &mut waiting)? else {
         return Ok(Outcome::Budget(query.budget));
     };
-    match gather(alloc, memo, design, query, waiting, charge)? {
+    match gather(alloc, asking, waiting)? {
         None => Ok(Outcome::Budget(query.budget)),
         Some(lines) => Ok(Outcome::Answer(Explanation {
             cells: CellList::from_vec(lines),
@@ -78,13 +75,12 @@ fn gather_answer<B: BatchName>(
 /// budget, where it would take more evaluations. An `Err` gives up the shards.
 pub fn explain<B: BatchName>(
     alloc: Global,
-    design: &Design,
+    design: BatchDesign<'_, B>,
     shards: Vec<Shard<B>>,
     query: Query,
 ) -> Result<Explained<B>, OutOfMemory>
     requires lawful { IsLawful B.batch }
     requires site { B.batch.site ≡ None }
-    requires design { design.now.circuit ≡ B.batch.circuit }
     requires queries { B.batch.queries ≡ query ∷ [] }
     requires window { query.to ≡ query.from + 1 }
     requires count { length shards.items ≡ B.batch.shards }
@@ -100,10 +96,11 @@ pub fn explain<B: BatchName>(
     ensures asks { IfOk result (λ done. AsksFreed B.batch B.opening query (shards_in shards.items)
         (shards_in done.shards.items) (is_budget done.outcome)) }
 {
-    let mut memo = begin(alloc, shards, &Wanted::all())?;
-    let outcome = gather_answer(alloc, &mut memo, design, query)?;
+    let memo = begin(alloc, shards, &Wanted::all())?;
+    let mut asking = Asking::new(design, memo);
+    let outcome = gather_answer(alloc, &mut asking, query)?;
     Ok(Explained {
         outcome,
-        shards: memo.into_shards(),
+        shards: asking.into_shards()?,
     })
 }

@@ -12,18 +12,19 @@ ghost use Rattle.plan_machine.specs.Settle.{entries_in, journals_of};
 ghost use Rattle.plan_core.specs.Parts.{shards_in};
 ghost use Rattle.plan_core.specs.asked.Asked.{AsksOn, AsksFreed};
 ghost use Rattle.plan_core.specs.asked.Shards.{AreNumbered, AreUnused};
-ghost use Rattle.plan_core.specs.asked.Memos.{AreFreeShards, entries_of};
+ghost use Rattle.plan_core.specs.asked.Memos.{entries_of};
 ghost use Rattle.reply_lines.specs.Replies.{is_budget};
 
-use demand_points::BatchName;
-use design::Design;
+use crate::asking::Asking;
+use demand_points::{BatchDesign, BatchName};
 use gate_values::Value;
 use journal_meaning::Query;
 use memo_shards::Shard;
-use plan_core::asked::{Memo, Wanted, begin, reach};
+use plan_core::asked::{Wanted, begin};
 use reply_lines::Outcome;
 use std::alloc::Global;
 use texts::OutOfMemory;
+use valid_intervals::Point;
 
 /// The outcome, and the shards after it.
 #[derive(Drop)]
@@ -41,37 +42,30 @@ fn is_same(value: Value, other: Value) -> bool
 
 /// Walks a window from cell to cell, up to the first cell that has the value.
 fn walk<B: BatchName>(
-    memo: &mut Memo<B>,
-    design: &Design,
+    asking: &mut Asking<'_, B>,
     query: Query,
     value: Value,
 ) -> Result<Outcome<Option<u32>>, OutOfMemory>
-    requires lawful { IsLawful B.batch }
     requires site { B.batch.site ≡ None }
-    requires design { design.now.circuit ≡ B.batch.circuit }
     requires queries { B.batch.queries ≡ up_to_first B.batch.circuit query value ∷ [] }
-    requires kept { AreFreeShards B.batch B.opening memo.old }
-    requires unused { entries_of memo.old ≡ [] }
-    ensures kept { OnOk result (AreFreeShards B.batch B.opening memo.new) }
-    ensures journals { OnOk result ((added : List EntryRecord) ×
-        AreAdded (journals_of (shards_in memo.old)) added (journals_of (shards_in memo.new))) }
-    ensures outcome { IfOk result (IsFirstOutcome B.batch.circuit (entries_of memo.new) value
+    requires unused { entries_of asking.old.memo ≡ [] }
+    ensures journals { OnOk result ((added : List EntryRecord) × AreAdded
+        (journals_of (shards_in asking.old.memo)) added (journals_of (shards_in asking.new.memo))) }
+    ensures outcome { IfOk result (IsFirstOutcome B.batch.circuit (entries_of asking.new.memo) value
         (Ask query)) }
     ensures asks { let until = up_to_first B.batch.circuit query value in
-        IfOk result (λ outcome. AsksOn B.batch B.opening until (shards_in memo.old) false
-        (shards_in memo.new) (is_budget outcome)) }
+        IfOk result (λ outcome. AsksOn B.batch B.opening until (shards_in asking.old.memo) false
+        (shards_in asking.new.memo) (is_budget outcome)) }
 {
+    asking.facts();
+    asking.turn_to(query, 0)?;
     let mut time = query.from;
-    let mut charge = 0;
     'cells: while time < query.to {
-        let instant = Query {
-            number: query.number,
+        let instant = Point {
             signal: query.signal,
-            from: time,
-            to: time + 1,
-            budget: query.budget,
+            time,
         };
-        let Some(cell) = reach(memo, design, instant, time, &mut charge)? else {
+        let Some(cell) = asking.cell(instant)? else {
             return Ok(Outcome::Budget(query.budget));
         };
         if is_same(cell.value, value) {
@@ -86,14 +80,13 @@ fn walk<B: BatchName>(
 /// time. For an empty window nothing is asked. An `Err` drops the shards.
 pub fn first_time<B: BatchName>(
     alloc: Global,
-    design: &Design,
+    design: BatchDesign<'_, B>,
     shards: Vec<Shard<B>>,
     query: Query,
     value: Value,
 ) -> Result<FirstDone<B>, OutOfMemory>
     requires lawful { IsLawful B.batch }
     requires site { B.batch.site ≡ None }
-    requires design { design.now.circuit ≡ B.batch.circuit }
     requires queries { B.batch.queries ≡ up_to_first B.batch.circuit query value ∷ [] }
     requires count { length shards.items ≡ B.batch.shards }
     requires numbers { AreNumbered shards.items }
@@ -109,10 +102,11 @@ pub fn first_time<B: BatchName>(
         IfOk result (λ done. AsksFreed B.batch B.opening until (shards_in shards.items)
         (shards_in done.shards.items) (is_budget done.outcome)) }
 {
-    let mut memo = begin(alloc, shards, &Wanted::all())?;
-    let outcome = walk(&mut memo, design, query, value)?;
+    let memo = begin(alloc, shards, &Wanted::all())?;
+    let mut asking = Asking::new(design, memo);
+    let outcome = walk(&mut asking, query, value)?;
     Ok(FirstDone {
         outcome,
-        shards: memo.into_shards(),
+        shards: asking.into_shards()?,
     })
 }

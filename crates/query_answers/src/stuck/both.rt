@@ -1,10 +1,10 @@
 //! What a question asks, and the two memos of which it asks it.
 
+use crate::asking::Asking;
 use demand_points::BatchName;
 use gate_values::Value;
 use journal_meaning::Query;
 use memo_shards::Shard;
-use plan_core::asked::Memo;
 
 /// A query, where the signal `site` is stuck at a value.
 #[derive(Clone, Copy)]
@@ -14,12 +14,10 @@ pub struct StuckQuery {
     pub value: Value,
 }
 
-/// The session's memo, and the memo of its own.
+/// The session's memo, as it is asked for the query, and the memo of its own.
 #[derive(Drop)]
-pub struct Memos<B: BatchName, H: BatchName> {
-    pub session: Memo<B>,
-    /// What the query is charged in the session's memo.
-    pub charge: u32,
+pub struct Memos<'d, B: BatchName, H: BatchName> {
+    pub session: Asking<'d, B>,
     pub own: Shard<H>,
     /// How many points it has filled in the memo of its own.
     pub filled: u32,

@@ -3,18 +3,16 @@
 ghost use Rattle.std.specs.Prelude.{◌≡◌, ◌<◌, IfOk, OnOk};
 ghost use Rattle.plan_machine.specs.Strands.{next as next_of};
 ghost use Rattle.plan_machine.specs.declared.strand.Next.TheVariants.{Ask as AskNext};
-ghost use Rattle.plan_core.specs.asked.Memos.{IsChargedMemo, entries_of};
+ghost use Rattle.plan_core.specs.asked.Memos.{entries_of};
 ghost use Rattle.circuit_meaning.specs.Forced.{IsFree};
 ghost use Rattle.query_answers.specs.stuck.inner.Both.{IsAsked, Asks, AreKept, Extends};
 ghost use Rattle.query_answers.specs.stuck.inner.Steps.{IsAfterStep, IsOwnStep};
 
 use crate::stuck::asked::AskedDesign;
 use crate::stuck::both::{Memos, StuckQuery};
-use demand_points::{BatchName, Strand};
+use demand_points::{BatchDesign, BatchName, Strand};
 use design::Design;
-use journal_meaning::Query;
 use memo_shards::{Step, step_point};
-use plan_core::asked::reach;
 use plan_machine::Next;
 use std::alloc::Global;
 use texts::OutOfMemory;
@@ -33,24 +31,24 @@ pub enum AfterStep {
 
 /// Makes a step at the memo of its own: a fill, or an ask for a point that is not free.
 fn step_own<B: BatchName, H: BatchName>(
-    memos: &mut Memos<B, H>,
+    memos: &mut Memos<'_, B, H>,
     strand: &mut Strand<H>,
     design: &Design,
-    held: &Design,
+    held: BatchDesign<'_, H>,
     question: StuckQuery,
     time: u32,
     next: Next,
 ) -> Result<AfterStep, OutOfMemory>
-    requires asked { IsAsked B.batch H.batch question design.now.circuit held.now.circuit }
-    requires asks { Asks B.batch B.opening question time memos.old.session memos.old.own strand.old }
+    requires asked { IsAsked B.batch H.batch question design.now.circuit held.design.now.circuit }
+    requires asks { Asks B.batch B.opening question time memos.old.session.memo memos.old.own
+        strand.old }
     requires next { next_of strand.old.strand ≡ next }
     requires own { IsOwnStep B.batch question next }
-    ensures after { IfOk result (IsAfterStep B.batch B.opening H.batch question time memos.old.session
-        memos.new.session memos.new.own strand.old strand.new) }
+    ensures after { IfOk result (IsAfterStep B.batch B.opening H.batch question time
+        memos.old.session.memo memos.new.session.memo memos.new.own strand.old strand.new) }
     ensures extends { OnOk result (Extends memos.old.own.shard.journal
         memos.new.own.shard.journal) }
     ensures session { memos.new.session ≡ memos.old.session }
-    ensures charge { memos.new.charge ≡ memos.old.charge }
 {
     strand.facts();
     memos.own.facts();
@@ -72,38 +70,28 @@ fn step_own<B: BatchName, H: BatchName>(
 
 /// Asks the session's memo for a point that is free of the site.
 fn ask_session<B: BatchName, H: BatchName>(
-    memos: &mut Memos<B, H>,
+    memos: &mut Memos<'_, B, H>,
     strand: &mut Strand<H>,
-    design: &Design,
-    held: &Design,
+    held: BatchDesign<'_, H>,
     question: StuckQuery,
     time: u32,
     p: Point,
 ) -> Result<AfterStep, OutOfMemory>
-    requires asked { IsAsked B.batch H.batch question design.now.circuit held.now.circuit }
-    requires session { IsChargedMemo B.batch B.opening memos.old.session question.query
-        memos.old.charge }
-    requires asks { Asks B.batch B.opening question time memos.old.session memos.old.own strand.old }
+    requires asked { IsAsked B.batch H.batch question B.batch.circuit held.design.now.circuit }
+    requires query { memos.old.session.query ≡ question.query }
+    requires asks { Asks B.batch B.opening question time memos.old.session.memo memos.old.own
+        strand.old }
     requires next { next_of strand.old.strand ≡ AskNext p }
     requires free { IsFree B.batch.circuit question.site p.signal }
-    ensures session { OnOk result (IsChargedMemo B.batch B.opening memos.new.session question.query
-        memos.new.charge) }
-    ensures after { IfOk result (IsAfterStep B.batch B.opening H.batch question time memos.old.session
-        memos.new.session memos.new.own strand.old strand.new) }
-    ensures kept_session { OnOk result (AreKept (entries_of memos.old.session)
-        (entries_of memos.new.session)) }
+    ensures query { memos.new.session.query ≡ memos.old.session.query }
+    ensures after { IfOk result (IsAfterStep B.batch B.opening H.batch question time
+        memos.old.session.memo memos.new.session.memo memos.new.own strand.old strand.new) }
+    ensures kept_session { OnOk result (AreKept (entries_of memos.old.session.memo)
+        (entries_of memos.new.session.memo)) }
     ensures own { memos.new.own ≡ memos.old.own }
 {
     strand.facts();
-    let query = question.query;
-    let one = Query {
-        number: query.number,
-        signal: p.signal,
-        from: p.time,
-        to: p.time + 1,
-        budget: query.budget,
-    };
-    match reach(&mut memos.session, design, one, p.time, &mut memos.charge)? {
+    match memos.session.cell(p)? {
         Some(cell) => {
             strand.hear(held, cell);
             Ok(AfterStep::GoesOn)
@@ -118,23 +106,22 @@ fn ask_session<B: BatchName, H: BatchName>(
 /// One step of the strand.
 pub fn take_step<B: BatchName, H: BatchName>(
     alloc: Global,
-    memos: &mut Memos<B, H>,
+    memos: &mut Memos<'_, B, H>,
     strand: &mut Strand<H>,
     design: &mut AskedDesign<'_>,
-    held: &Design,
+    held: BatchDesign<'_, H>,
     question: StuckQuery,
     time: u32,
 ) -> Result<AfterStep, OutOfMemory>
-    requires asked { IsAsked B.batch H.batch question design.old.circuit held.now.circuit }
-    requires session { IsChargedMemo B.batch B.opening memos.old.session question.query
-        memos.old.charge }
-    requires asks { Asks B.batch B.opening question time memos.old.session memos.old.own strand.old }
-    ensures session { OnOk result (IsChargedMemo B.batch B.opening memos.new.session question.query
-        memos.new.charge) }
-    ensures after { IfOk result (IsAfterStep B.batch B.opening H.batch question time memos.old.session
-        memos.new.session memos.new.own strand.old strand.new) }
-    ensures kept_session { OnOk result (AreKept (entries_of memos.old.session)
-        (entries_of memos.new.session)) }
+    requires asked { IsAsked B.batch H.batch question design.old.circuit held.design.now.circuit }
+    requires query { memos.old.session.query ≡ question.query }
+    requires asks { Asks B.batch B.opening question time memos.old.session.memo memos.old.own
+        strand.old }
+    ensures query { memos.new.session.query ≡ memos.old.session.query }
+    ensures after { IfOk result (IsAfterStep B.batch B.opening H.batch question time
+        memos.old.session.memo memos.new.session.memo memos.new.own strand.old strand.new) }
+    ensures kept_session { OnOk result (AreKept (entries_of memos.old.session.memo)
+        (entries_of memos.new.session.memo)) }
     ensures extends { OnOk result (Extends memos.old.own.shard.journal
         memos.new.own.shard.journal) }
     ensures design { design.new ≡ design.old }
@@ -149,7 +136,7 @@ pub fn take_step<B: BatchName, H: BatchName>(
             if is_reached {
                 step_own(memos, strand, plain, held, question, time, Next::Ask(p))
             } else {
-                ask_session(memos, strand, plain, held, question, time, p)
+                ask_session(memos, strand, held, question, time, p)
             }
         }
         Next::Drop(_) => unreachable!(),

@@ -9,20 +9,21 @@ ghost use Rattle.plan_machine.specs.Sound.{IsFresh};
 ghost use Rattle.plan_machine.specs.Settle.{entries_in};
 ghost use Rattle.plan_core.specs.Parts.{shards_in};
 ghost use Rattle.plan_core.specs.asked.Shards.{AreNumbered, AreUnused};
-ghost use Rattle.plan_core.specs.asked.Memos.{AreFreeShards, IsChargedMemo, entries_of};
+ghost use Rattle.plan_core.specs.asked.Memos.{entries_of};
 ghost use Rattle.query_answers.specs.stuck.Asks.{AsksRoots, AsksBoth};
 ghost use Rattle.query_answers.specs.stuck.inner.Both.{IsAsked, Rests, site_in};
 
+use crate::asking::Asking;
 use crate::stuck::asked::AskedDesign;
 use crate::stuck::both::{Memos, StuckQuery};
 use crate::stuck::root::hear_root;
 use cell_store::CellStore;
-use demand_points::BatchName;
+use demand_points::{BatchDesign, BatchName};
 use design::Design;
 use gate_values::Value;
 use journal_meaning::{Entry, Query};
 use memo_shards::Shard;
-use plan_core::asked::{Memo, Wanted, begin};
+use plan_core::asked::{Wanted, begin};
 use reply_lines::Outcome;
 use std::alloc::Global;
 use std::marker::Brand;
@@ -43,27 +44,25 @@ pub struct StuckWave<B: BatchName> {
 /// Walks the window of the question from cell to cell. In the end nothing is claimed in the memo of its own.
 fn walk<B: BatchName, H: BatchName>(
     alloc: Global,
-    memos: &mut Memos<B, H>,
+    memos: &mut Memos<'_, B, H>,
     design: &mut AskedDesign<'_>,
-    held: &Design,
+    held: BatchDesign<'_, H>,
     question: StuckQuery,
 ) -> Result<Outcome<Runs>, OutOfMemory>
-    requires asked { IsAsked B.batch H.batch question design.old.circuit held.now.circuit }
-    requires session { IsChargedMemo B.batch B.opening memos.old.session question.query
-        memos.old.charge }
-    requires rests { Rests B.batch B.opening question memos.old.session memos.old.own
+    requires asked { IsAsked B.batch H.batch question design.old.circuit held.design.now.circuit }
+    requires query { memos.old.session.query ≡ question.query }
+    requires rests { Rests B.batch B.opening question memos.old.session.memo memos.old.own
         memos.old.filled }
-    ensures session { OnOk result (AreFreeShards B.batch B.opening memos.new.session) }
     ensures number { OnOk result (memos.new.own.number ≡ 0) }
     ensures idle { OnOk result (memos.new.own.shard.state.claims ≡ []) }
     ensures reached { OnOk result (NoneIsFree B.batch.circuit (site_in question)
         memos.new.own.shard.journal) }
     ensures outcome { IfOk result (IsStuckOutcome B.batch.circuit (site_in question)
-        (entries_of memos.new.session) memos.new.own.shard.journal (Ask question.query)) }
+        (entries_of memos.new.session.memo) memos.new.own.shard.journal (Ask question.query)) }
     ensures asks { let site = site_in question in
         IfOk result (λ outcome. AsksRoots B.batch B.opening site question.query
-        (shards_in memos.old.session) memos.old.own.shard.journal
-        (shards_in memos.new.session) memos.new.own.shard.journal (is_budget outcome)) }
+        (shards_in memos.old.session.memo) memos.old.own.shard.journal
+        (shards_in memos.new.session.memo) memos.new.own.shard.journal (is_budget outcome)) }
     ensures design { design.new ≡ design.old }
 {
     let query = question.query;
@@ -85,12 +84,11 @@ fn answer<B: BatchName, H: BatchName>(
     design: &mut AskedDesign<'_>,
     held: &Design,
     question: StuckQuery,
-    session: Memo<B>,
+    session: Asking<'_, B>,
 ) -> Result<StuckWave<B>, OutOfMemory>
     requires asked { IsAsked B.batch H.batch question design.old.circuit held.now.circuit }
     requires opening { H.opening 0 ≡ [] }
-    requires session { AreFreeShards B.batch B.opening session }
-    requires unused { entries_of session ≡ [] }
+    requires unused { entries_of session.memo ≡ [] }
     ensures numbers { IfOk result (λ done. AreNumbered done.shards.items) }
     ensures fresh { IfOk result (λ done. IsFresh B.batch B.opening (shards_in done.shards.items)) }
     ensures held { IfOk result (λ done. IsHeldJournal B.batch.circuit (site_in question)
@@ -99,14 +97,17 @@ fn answer<B: BatchName, H: BatchName>(
         (entries_in (shards_in done.shards.items)) done.held.items (Ask question.query)
         done.outcome) }
     ensures asks { let site = site_in question in
-        IfOk result (λ done. AsksRoots B.batch B.opening site question.query (shards_in session) []
-        (shards_in done.shards.items) done.held.items (is_budget done.outcome)) }
+        IfOk result (λ done. AsksRoots B.batch B.opening site question.query
+        (shards_in session.entry.memo) [] (shards_in done.shards.items) done.held.items
+        (is_budget done.outcome)) }
     ensures design { design.new ≡ design.old }
 {
+    let mut session = session;
+    session.turn_to(question.query, 0)?;
     let store = CellStore::new(alloc, OWN_CELLS, 1, 0)?;
+    let held = BatchDesign::<H>::new(held);
     let mut memos = Memos::<B, H> {
         session,
-        charge: 0,
         own: Shard::begin(alloc, 0, store),
         filled: 0,
     };
@@ -116,7 +117,7 @@ fn answer<B: BatchName, H: BatchName>(
     let (_, journal) = memos.own.end_batch();
     Ok(StuckWave {
         outcome,
-        shards: memos.session.into_shards(),
+        shards: memos.session.into_shards()?,
         held: journal,
     })
 }
@@ -153,6 +154,7 @@ pub fn stuck_wave<B: BatchName>(
 {
     let held = design.design().hold(alloc, site, value)?;
     let question = StuckQuery { query, site, value };
-    let session = begin(alloc, shards, &Wanted::all())?;
+    let memo = begin(alloc, shards, &Wanted::all())?;
+    let session = Asking::new(BatchDesign::new(design.design()), memo);
     answer::<B, Brand>(alloc, design, &held, question, session)
 }

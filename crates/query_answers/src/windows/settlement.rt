@@ -11,9 +11,9 @@ ghost use Rattle.plan_core.specs.asked.Shards.{AreNumbered};
 ghost use Rattle.plan_core.specs.asked.Memos.{AreFreeShards, entries_of};
 ghost use Rattle.query_answers.specs.windows.Settlement.{HasSettled};
 
+use crate::asking::Asking;
 use crate::windows::answers::{answer_all, feed_all};
-use demand_points::BatchName;
-use design::Design;
+use demand_points::{BatchDesign, BatchName};
 use journal_meaning::Query;
 use memo_shards::Shard;
 use plan_core::asked::{FillCounts, Memo, Said, Wanted, begin, begin_with};
@@ -81,7 +81,7 @@ fn begin_settlement<B: BatchName>(
 /// each of them. The visits are then left out. What the caller has noted of the entries (`said`) is not read again.
 pub fn settle<B: BatchName>(
     alloc: Global,
-    design: &Design,
+    design: BatchDesign<'_, B>,
     shards: Vec<Shard<B>>,
     queries: &[Query],
     heard: bool,
@@ -89,7 +89,6 @@ pub fn settle<B: BatchName>(
 ) -> Result<Settled<B>, OutOfMemory>
     requires lawful { IsLawful B.batch }
     requires site { B.batch.site ≡ None }
-    requires design { design.now.circuit ≡ B.batch.circuit }
     requires queries { queries.now ≡ B.batch.queries }
     requires count { length shards.items ≡ B.batch.shards }
     requires numbers { AreNumbered shards.items }
@@ -98,11 +97,12 @@ pub fn settle<B: BatchName>(
     ensures { IfOk result (λ settled. HasSettled B.batch B.opening shards.items settled.shards.items
         settled.outcomes.items) }
 {
-    let Begun { mut memo, fills } = begin_settlement(alloc, shards, queries, heard, said)?;
-    let fed = feed_all(alloc, &mut memo, design, queries, heard, fills)?;
-    let outcomes = answer_all(alloc, &mut memo, design, queries, &fed)?;
+    let Begun { memo, fills } = begin_settlement(alloc, shards, queries, heard, said)?;
+    let mut asking = Asking::new(design, memo);
+    let fed = feed_all(alloc, &mut asking, queries, heard, fills)?;
+    let outcomes = answer_all(alloc, &mut asking, queries, &fed)?;
     Ok(Settled {
         outcomes,
-        shards: memo.into_shards(),
+        shards: asking.into_shards()?,
     })
 }

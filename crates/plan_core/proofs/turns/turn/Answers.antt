@@ -15,10 +15,11 @@ returns-in_default-step_point g c =
     let done = c.step_point.ensures.none c.in_default-step_point.is in
     end-rests g.B.BatchName.batch g.B.BatchName.opening c.args.places.now.items c.args.shards.now.items c.requires.parts c.args.number (subst (λ x. IsNextAt c.args.places.now.items c.args.number (Some x)) done (subst (λ (xs : List (Option Demand)). IsNextAt xs c.args.number (Some c.in-Some.next)) c.deref.ensures.value c.in-Some.ensures))
 
-pub step-requires-clause-stands : goal.step-requires-clause-stands
-step-requires-clause-stands g c =
-    turn-stands g.B.BatchName.batch g.B.BatchName.opening c.args.places.now.items c.args.shards.now.items c.requires.parts c.args.number c.in-Some.next (subst (λ (xs : List (Option Demand)). IsNextAt xs c.args.number (Some c.in-Some.next)) c.deref.ensures.value c.in-Some.ensures) c.index_mut-2.result.now c.index_mut-2.ensures.value
-    c.in-Some-step_point.p c.in-Some-step_point.ensures.some c.shard_number-home.result (c.shard_number-home.ensures.number ∙ ap (shard_number c.in-Some-step_point.p.signal) (c.len.ensures ∙ c.args.shards.now.ok.0)) c.index_mut.result.now c.index_mut.ensures.value
+pub step-requires : goal.step-requires
+step-requires g c =
+    let stands = turn-stands g.B.BatchName.batch g.B.BatchName.opening c.args.places.now.items c.args.shards.now.items c.requires.parts c.args.number c.in-Some.next (subst (λ (xs : List (Option Demand)). IsNextAt xs c.args.number (Some c.in-Some.next)) c.deref.ensures.value c.in-Some.ensures) c.index_mut-2.result.now c.index_mut-2.ensures.value
+    c.in-Some-step_point.p c.in-Some-step_point.ensures.some c.shard_number-home.result (c.shard_number-home.ensures.number ∙ ap (shard_number c.in-Some-step_point.p.signal) (c.len.ensures ∙ c.args.shards.now.ok.0)) c.index_mut.result.now c.index_mut.ensures.value in
+    record { stands = stands }
 
 pub returns-in_err-turned : goal.returns-in_err-turned
 returns-in_err-turned g c =
@@ -31,7 +32,7 @@ pub put_back-requires : goal.put_back-requires
 put_back-requires g c =
     let woke = turn-wakes g.B.BatchName.batch g.B.BatchName.opening c.args.places.now.items c.args.shards.now.items c.requires.parts c.args.number c.in-Some.next (subst (λ (xs : List (Option Demand)). IsNextAt xs c.args.number (Some c.in-Some.next)) c.deref.ensures.value c.in-Some.ensures) c.index_mut-2.result.now c.index_mut-2.ensures.value
     c.in-Some-step_point.p c.in-Some-step_point.ensures.some c.shard_number-home.result (c.shard_number-home.ensures.number ∙ ap (shard_number c.in-Some-step_point.p.signal) (c.len.ensures ∙ c.args.shards.now.ok.0)) c.index_mut.result.now c.index_mut.ensures.value c.step.new.shard c.step.ensures.known c.step.new.place c.in_ok-turned.turned c.in_ok-turned.woken c.in_ok-turned.ensures.came c.in-Some-woken.woken c.in-Some-woken.is in
-    record { design = c.requires.design; numbers = woke.numbers; numbered = woke.numbered }
+    record { numbers = woke.numbers; numbered = woke.numbered }
 
 pub returns-in-Some-woken : goal.returns-in-Some-woken
 returns-in-Some-woken g c =

@@ -21,4 +21,4 @@ invariant_of-self g c =
     let s = c.self.inside.parts in
     let p = c.requires.fills.0 in
     let fills : next (strand_of b.circuit s) ≡ Fill p = subst (λ (v : Demand). next v.strand ≡ Fill p) (sym c.self.view_is) c.requires.fills.1 in
-    (finished-demand b c.args.design.now.circuit c.requires.design s c.finish.new.self c.self.invariant.0 p fills c.finish.ensures, λ h. absurd (false≢true h))
+    (finished-demand b c.design.result.now.circuit c.design.ensures.circuit s c.finish.new.self c.self.invariant.0 p fills c.finish.ensures, λ h. absurd (false≢true h))

@@ -13,4 +13,4 @@ invariant_of-self-2 g c =
     let s = c.self.inside.parts in
     let asks : next (strand_of b.circuit s) ≡ Ask c.args.p = subst (λ (v : Demand). next v.strand ≡ Ask c.args.p) (sym c.self.view_is) c.requires.asks in
     let room : s.charged < s.budget = subst (λ (v : Demand). v.strand.charged < v.strand.budget) (sym c.self.view_is) c.requires.room in
-    (claimed-demand b c.args.design.now.circuit c.requires.design s c.claim.new.self c.self.invariant.0 c.args.p asks room c.in_ok-claim.ensures.ok, λ h. absurd (false≢true h))
+    (claimed-demand b c.design.result.now.circuit c.design.ensures.circuit s c.claim.new.self c.self.invariant.0 c.args.p asks room c.in_ok-claim.ensures.ok, λ h. absurd (false≢true h))

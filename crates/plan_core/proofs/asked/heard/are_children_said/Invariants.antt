@@ -6,10 +6,10 @@ use Rattle.plan_core.proofs.asked.heard.are_children_said.Given as goal
 
 abbrev pub invariant-pins : goal.invariant-pins
 invariant-pins g l = record {
-  walk : IsPinWalk l.design.circuit l.walk;
+  walk : IsPinWalk g.B.BatchName.batch.circuit l.walk;
   point : l.walk.point ≡ l.fn.p;
-  covered : (i : ℕ) → i < l.walk.looked → IsSourceCovered g.B.BatchName.batch.circuit (entries_of l.shards) (get_or (looked_at l.design.circuit l.fn.p) i None);
+  covered : (i : ℕ) → i < l.walk.looked → IsSourceCovered g.B.BatchName.batch.circuit (entries_of l.shards) (get_or (looked_at g.B.BatchName.batch.circuit l.fn.p) i None);
 }
 
 abbrev pub decreases-pins : goal.decreases-pins
-decreases-pins g l = length (looked_at l.design.circuit l.walk.point) - l.walk.looked
+decreases-pins g l = length (looked_at g.B.BatchName.batch.circuit l.walk.point) - l.walk.looked

@@ -13,7 +13,7 @@ pub returns-in-Some-clause-asked : goal.returns-in-Some-clause-asked
 returns-in-Some-clause-asked g c =
     let b = g.B.BatchName.batch in
     known-asked b g.B.BatchName.opening c.args.memo.now c.args.query c.args.time c.args.charge.now c.requires.asking
-    (inl (subst (λ (d : Circuit). IsEvaluable d c.args.query.signal c.args.time → ⊥) c.requires.design c.in-Some.ensures.some))
+    (inl (subst (λ (d : Circuit). IsEvaluable d c.args.query.signal c.args.time → ⊥) c.design.ensures.circuit c.in-Some.ensures.some))
 
 pub returns-in-Some-2-clause-asked : goal.returns-in-Some-2-clause-asked
 returns-in-Some-2-clause-asked g c =
@@ -41,7 +41,7 @@ returns-clause-asked g c =
     let h : HasAsked b opening a (shards_in old) (shards_in new) false =
     subst (λ l. HasAsked b opening a (shards_in l) (shards_in new) false) c.find.ensures.same
     (subst (HasAsked b opening a (shards_in c.find.new.self) (shards_in new)) c.if-branch.false c.in_ok-ask.ensures.asked) in
-    let evaluable : IsEvaluable b.circuit x.signal x.time = subst (λ (d : Circuit). IsEvaluable d x.signal x.time) c.requires.design (none-of c.base.result (IsEvaluable c.args.design.now.circuit c.args.query.signal c.args.time) c.base.ensures.none c.in_default.is) in
+    let evaluable : IsEvaluable b.circuit x.signal x.time = subst (λ (d : Circuit). IsEvaluable d x.signal x.time) c.design.ensures.circuit (none-of c.base.result (IsEvaluable c.design.result.now.circuit c.args.query.signal c.args.time) c.base.ensures.none c.in_default.is) in
     let found : IsFound (cells_said (entries_of new)) x = found-covered b (entries_of new) x evaluable (root-covered b opening c.args.query c.args.time c.args.charge.now (shards_in old) (shards_in new) h) in
     missing-none c.find-2.result (IsFound (cells_said (entries_of new)) x) c.find-2.ensures.none found (HasAsked b opening a (shards_in old) (shards_in c.find-2.new.self))
     (subst (λ l. HasAsked b opening a (shards_in old) (shards_in l) false) (sym c.find-2.ensures.same) h)

@@ -10,9 +10,8 @@ use Rattle.query_answers.proofs.windows.answers.answer_all.Goals as goal
 
 pub loop-k-init : goal.loop-k-init
 loop-k-init g c = record {
-  free = c.requires.free;
-  walked = λ start first h. subst (λ (rs : List (Outcome (List Run))). IsWalking g.B.BatchName.batch start first (shards_in c.args.memo.now) [] rs c.args.queries.now c.args.fed.now) (sym c.new-outcomes.ensures.items) h;
-  asks = let ss = shards_in c.args.memo.now in subst (λ (rs : List (Outcome (List Run))). WalksTo g.B.BatchName.batch g.B.BatchName.opening c.args.queries.now ss c.args.fed.now ss 0 rs) (sym c.new-outcomes.ensures.items) refl;
+  walked = λ start first h. subst (λ (rs : List (Outcome (List Run))). IsWalking g.B.BatchName.batch start first (shards_in c.args.asking.now.memo) [] rs c.args.queries.now c.args.fed.now) (sym c.new-outcomes.ensures.items) h;
+  asks = let ss = shards_in c.args.asking.now.memo in subst (λ (rs : List (Outcome (List Run))). WalksTo g.B.BatchName.batch g.B.BatchName.opening c.args.queries.now ss c.args.fed.now ss 0 rs) (sym c.new-outcomes.ensures.items) refl;
 }
 
 abbrev no_query : Query
@@ -23,13 +22,13 @@ answer_one-requires-clause-counts g c =
     let w = c.requires.fed in
     let n = c.requires.count in
     let high : c.loop-k.k < length c.args.fed.now = let t = c.loop-k-test.true in omega arith in
-    (walk-fed g.B.BatchName.batch c.requires.lawful w.0 w.1.0 c.args.queries.now c.requires.queries c.loop-k.k c.loop-k-test.true _ c.args.fed.now high _ (shards_in c.loop-k.memo) c.loop-k.outcomes.items (c.loop-k.invariant.walked w.0 w.1.0 w.1.1)).counts
+    (walk-fed g.B.BatchName.batch c.facts.ensures w.0 w.1.0 c.args.queries.now c.requires.queries c.loop-k.k c.loop-k-test.true _ c.args.fed.now high _ (shards_in c.loop-k.asking.memo) c.loop-k.outcomes.items (c.loop-k.invariant.walked w.0 w.1.0 w.1.1)).counts
 
 pub loop-k-preserved : goal.loop-k-preserved
 loop-k-preserved g c =
     let b = g.B.BatchName.batch in
-    let now = c.loop-k.memo in
-    let new = c.answer_one.new.memo in
+    let now = c.loop-k.asking.memo in
+    let new = c.answer_one.new.asking.memo in
     let qs = c.args.queries.now in
     let fs = c.args.fed.now in
     let k = c.loop-k.k in
@@ -37,24 +36,23 @@ loop-k-preserved g c =
     let high : k < length fs = let t = c.loop-k-test.true in omega arith in
     let r = c.in_ok-outcome.outcome in
     record {
-      free = c.in_ok-outcome.ensures.free;
       walked = λ start first h.
           let was = c.loop-k.invariant.walked start first h in
-          let f = walk-fed b c.requires.lawful start first qs c.requires.queries k c.loop-k-test.true _ fs high _ (shards_in now) c.loop-k.outcomes.items was in
+          let f = walk-fed b c.facts.ensures start first qs c.requires.queries k c.loop-k-test.true _ fs high _ (shards_in now) c.loop-k.outcomes.items was in
           subst (λ (rs : List (Outcome (List Run))). IsWalking b start first (shards_in new) (take (k + 1) qs) rs (drop (k + 1) qs) (drop (k + 1) fs)) (sym c.in_ok-push.ensures.items)
-          (walk-next b c.requires.lawful start first qs c.requires.queries k c.loop-k-test.true _ fs high (record { charge = 0; refused = false }) g.B.BatchName.opening (shards_in now) (shards_in new) c.loop-k.outcomes.items r was (c.in_ok-outcome.ensures.settles start f) c.in_ok-outcome.ensures.outcome);
-      asks = subst (λ (rs : List (Outcome (List Run))). WalksTo b g.B.BatchName.opening qs (shards_in c.args.memo.now) fs (shards_in new) (k + 1) rs) (sym c.in_ok-push.ensures.items)
-          (turn-next b g.B.BatchName.opening qs (shards_in c.args.memo.now) fs (shards_in now) (shards_in new) k no_query (record { charge = 0; refused = false }) c.loop-k.outcomes.items r c.loop-k-test.true high c.loop-k.invariant.asks c.in_ok-outcome.ensures.asks);
+          (walk-next b c.facts.ensures start first qs c.requires.queries k c.loop-k-test.true _ fs high (record { charge = 0; refused = false }) g.B.BatchName.opening (shards_in now) (shards_in new) c.loop-k.outcomes.items r was (c.in_ok-outcome.ensures.settles start f) c.in_ok-outcome.ensures.outcome);
+      asks = subst (λ (rs : List (Outcome (List Run))). WalksTo b g.B.BatchName.opening qs (shards_in c.args.asking.now.memo) fs (shards_in new) (k + 1) rs) (sym c.in_ok-push.ensures.items)
+          (turn-next b g.B.BatchName.opening qs (shards_in c.args.asking.now.memo) fs (shards_in now) (shards_in new) k no_query (record { charge = 0; refused = false }) c.loop-k.outcomes.items r c.loop-k-test.true high c.loop-k.invariant.asks c.in_ok-outcome.ensures.asks);
     }
 
 pub returns-clause-settled : goal.returns-clause-settled
 returns-clause-settled g c = λ start first h.
     let t = c.loop-k-test.false in
     let n = c.requires.count in
-    walk-last g.B.BatchName.batch c.requires.lawful start first c.args.queries.now c.requires.queries (shards_in c.loop-k.memo) c.loop-k.k c.loop-k.outcomes.items c.args.fed.now (omega arith) (omega arith) (c.loop-k.invariant.walked start first h)
+    walk-last g.B.BatchName.batch c.facts.ensures start first c.args.queries.now c.requires.queries (shards_in c.loop-k.asking.memo) c.loop-k.k c.loop-k.outcomes.items c.args.fed.now (omega arith) (omega arith) (c.loop-k.invariant.walked start first h)
 
 pub returns-clause-asks : goal.returns-clause-asks
 returns-clause-asks g c =
     let t = c.loop-k-test.false in
     let n = c.requires.count in
-    turn-last g.B.BatchName.batch g.B.BatchName.opening c.args.queries.now (shards_in c.args.memo.now) c.args.fed.now (shards_in c.loop-k.memo) c.loop-k.k c.loop-k.outcomes.items (omega arith) (omega arith) c.loop-k.invariant.asks
+    turn-last g.B.BatchName.batch g.B.BatchName.opening c.args.queries.now (shards_in c.args.asking.now.memo) c.args.fed.now (shards_in c.loop-k.asking.memo) c.loop-k.k c.loop-k.outcomes.items (omega arith) (omega arith) c.loop-k.invariant.asks

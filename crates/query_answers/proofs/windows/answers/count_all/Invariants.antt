@@ -7,6 +7,6 @@ use Rattle.query_answers.proofs.windows.answers.count_all.Given as goal
 
 abbrev pub invariant-loop-q : goal.invariant-loop-q
 invariant-loop-q g l = record {
-  fed : IsFeeding g.B.BatchName.batch (entries_of l.memo) (shards_in l.memo) (shards_in l.memo) (take l.q-index l.queries) l.fed.items (drop l.q-index l.queries);
-  asks : VisitsTo g.B.BatchName.batch g.B.BatchName.opening l.queries (shards_in l.memo) (shards_in l.memo) l.q-index l.fed.items;
+  fed : IsFeeding g.B.BatchName.batch (entries_of l.asking.memo) (shards_in l.asking.memo) (shards_in l.asking.memo) (take l.q-index l.queries) l.fed.items (drop l.q-index l.queries);
+  asks : VisitsTo g.B.BatchName.batch g.B.BatchName.opening l.queries (shards_in l.asking.memo) (shards_in l.asking.memo) l.q-index l.fed.items;
 }
