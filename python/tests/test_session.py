@@ -363,6 +363,10 @@ def test_numbers_of_numpy(example, program) -> None:
         assert session.trim(numpy.int16(500)) == Trimmed(0)
         with pytest.raises(UsageError, match="is no time"):
             session.at("22", numpy.float64(3))
+        with pytest.raises(UsageError, match="True.* is no time"):
+            session.at("22", numpy.bool_(True))
+        with pytest.raises(UsageError, match="True.* is no budget"):
+            session.at("22", 3, numpy.bool_(True))
     assert wave == Wave("22", 0, 11, ((0, "x"), (2, "0"))) and len(wave) == 2 and list(wave) == [(0, 2, "x"), (2, 11, "0")]
     runs = wave.to_numpy()
     assert runs["start"].tolist() == [0, 2] and runs["stop"].tolist() == [2, 11] and runs["value"].tolist() == ["x", "0"]
