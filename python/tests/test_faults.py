@@ -289,6 +289,11 @@ def test_a_folder_has_as_many_scripts_as_it_needs(patterns, monkeypatch, capsys,
     assert main([*words, "--write", str(folder)]) == 2
 
 
+def test_a_folder_of_one_script_is_said_to_have_one(patterns, capsys, tmp_path) -> None:
+    assert main(["faults", *C17, str(patterns), "--period", "10", "--write", str(tmp_path / "bundle")]) == 0
+    assert capsys.readouterr().err == f"{tmp_path / 'bundle'}: 1 script\n"
+
+
 def test_replies_of_another_call_are_refused(tools, patterns, bundle) -> None:
     run = asked(tools, patterns, "--read", bundle, "--stems")
     assert run.returncode == 1 and b"another call" in run.stderr

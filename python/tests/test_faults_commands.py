@@ -134,7 +134,7 @@ def test_a_sequence_ends_by_the_last_time_that_there_is(tools, write) -> None:
     run = tools("patterns", netlist, write("t", "clock 700000 400000\n"), "--period", 400000, "--first", 600000)
     assert run.returncode == 1 and run.stdout in (b"0\n", b"1\n")
     assert run.stderr.decode().splitlines()[-2:] == [
-        "1 patterns of 1 show 2 of 4 faults, 50.00 %",
+        "1 pattern of 1 shows 2 of 4 faults, 50.00 %",
         "no further pattern ends by 1000000, the last time that there is, so none was tried: take a shorter period"]
 
 

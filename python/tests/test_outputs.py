@@ -50,7 +50,7 @@ WORDS = {
 }
 # what is asked on standard input, and what commands say on standard error where all is well
 INPUT = "why 22 5\nnames\n"
-SAID = {"patterns": r"[0-9]+ patterns of [0-9]+ show .*\n", "compact": r"[0-9]+ of 2 patterns are left, .*\n"}
+SAID = {"patterns": r"[0-9]+ patterns? of [0-9]+ shows? .*\n", "compact": r"[0-9]+ of 2 patterns (is|are) left, .*\n"}
 
 
 def words_of(name: str, folder: Path) -> list[str]:

@@ -42,5 +42,6 @@ def run(arguments: argparse.Namespace) -> int:
     words = [patterns.words[look] for look in kept]
     with whole_text(arguments.output) as stream:
         stream.writelines(f"{word}\n" for word in words)
-    say(f"{len(kept)} of {len(patterns.words)} patterns are left, and show the same {ones_of(together(shown))} of {len(classes)} faults")
+    verbs = ("is", "shows") if len(kept) == 1 else ("are", "show")
+    say(f"{len(kept)} of {len(patterns.words)} patterns {verbs[0]} left, and {verbs[1]} the same {ones_of(together(shown))} of {len(classes)} faults")
     return 0

@@ -88,7 +88,8 @@ def run(arguments: argparse.Namespace) -> int:
         raise WordsError("--write and --read are for stuck-at faults alone")
     plan = Plan.of(looks.circuit, classes, looks.times, arguments.budget)
     if arguments.write:
-        say(f"{arguments.write}: {write_bundle(plan, arguments.write)} scripts")
+        count = write_bundle(plan, arguments.write)
+        say(f"{arguments.write}: {count} script{'s' * (count != 1)}")
         return 0
     if arguments.read:
         good, outcomes = read_bundle(plan, arguments.read)

@@ -75,7 +75,9 @@ def run(arguments: argparse.Namespace) -> int:
         if is_partial:
             stream.write(f"{PARTIAL}\n")
         stream.writelines(f"{word}\n" for word in search.kept)
-    say(f"{len(search.kept)} patterns of {search.tried} show {search.shown} of {len(classes)} faults, {percent(search.shown, len(classes))}")
+    one = len(search.kept) == 1
+    say(f"{len(search.kept)} {'pattern' if one else 'patterns'} of {search.tried} {'shows' if one else 'show'} {search.shown} of {len(classes)} faults, "
+        f"{percent(search.shown, len(classes))}")
     if is_partial:
         return INTERRUPTED
     if search.goes_on():
