@@ -94,6 +94,15 @@ def test_what_has_not_settled_is_said_and_asked_again(tools, write) -> None:
     assert run.stdout.decode().splitlines()[:2] == ["5: y /1", "8: y /0"]
 
 
+def test_who_simulates_says_what_has_not_settled(tools, write) -> None:
+    """The chain of the test above, by the commands that choose patterns and explain failures."""
+    files = write("n", CHAIN), write("t", "default 1\n"), write("p", "0\n1\n1\n")
+    said = "outputs may not have settled at 2 of 3 looks: the longest path to them is 4, and a look comes 2 after a change"
+    for command in (["compact", *files], ["diagnose", *files, write("failures", "2 y\n"), "--by-pattern"]):
+        assert tools(*command, "--period", 3).stderr.decode().splitlines().count(said) == 1
+        assert said not in tools(*command, "--period", 5).stderr.decode()
+
+
 def test_a_clock_that_from_sdf_shifted_is_the_one_that_it_comes_of(tools, write) -> None:
     """q takes a at 10, 20 and 30, and shows it 4 later; r takes 3 after these edges what q had before them. So r is 0 at 19, 1 at 29, where a
     was 1 at 10, and 0 at 39."""

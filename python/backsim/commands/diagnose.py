@@ -47,7 +47,7 @@ def run(arguments: argparse.Namespace) -> int:
         return 1
     best = candidates[:arguments.most]
     plan = Plan.of(looks.circuit, [one.own for one in best], looks.times, MOST_BUDGET)
-    predict(best, finder_for(arguments, looks, plan.classes, 0))
+    predict(best, finder_for(arguments, looks, plan.classes, 0, warns=False))
     with asked_files(arguments, looks, plan.made) as files, Crew(files, min(jobs_of(arguments), len(best)), arguments.program) as crew:
         crew.share(best, lambda asker, one: check(plan, one, failures, asker.ask))
     for place, one in enumerate(best, 1):

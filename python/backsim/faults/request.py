@@ -9,6 +9,7 @@ from contextlib import contextmanager
 from pathlib import Path
 
 from ..command_line.arguments import count_of, in_units, moment_of
+from ..convert.output import say
 from ..convert.patterns import Patterns, read_patterns, stimulus_of
 from ..errors import FormatError, UsageError, WordsError, type_of_path
 from ..formats.circuit import Circuit
@@ -24,6 +25,7 @@ from .circuit_files import write_circuit
 from .collapse import FaultClass, collapse, single
 from .finding import Finder, finder_of
 from .lists import read_faults
+from .looks import warnings
 from .model import TRANSITIONS, VALUES, Lines
 
 _MOST_JOBS = 1024
@@ -123,9 +125,12 @@ def asked_files(arguments: argparse.Namespace, looks: Looks, made: Made) -> Iter
             yield arguments.netlist, arguments.timing, arguments.patterns
 
 
-def finder_for(arguments: argparse.Namespace, looks: Looks, classes: Sequence[FaultClass], drop: int) -> Finder:
-    """What simulates these classes. FormatError where gates make a cycle."""
+def finder_for(arguments: argparse.Namespace, looks: Looks, classes: Sequence[FaultClass], drop: int, warns: bool = True) -> Finder:
+    """What simulates these classes; with `warns` it is said why the program's answers may be others. FormatError where gates make a
+    cycle."""
     try:
+        for warning in warnings(looks.circuit, looks.times) if warns else ():
+            say(warning)
         return finder_of(looks.circuit, classes, looks.times, drop, jobs_of(arguments))
     except ValueError as cycle:
         line = looks.circuit.netlist.gates[str(cycle)].line
