@@ -356,6 +356,13 @@ def test_what_is_no_whole_number_is_refused_and_the_session_stays(example, ask) 
         assert session.at("22", 3).value == "0"
 
 
+@pytest.mark.parametrize("ask", [lambda session: session.at("\u00e9", 3), lambda session: session.stuck("\u00e9", 1, "22", 0, 5)])
+def test_a_letter_outside_ascii_is_said_to_be_no_part_of_a_name(example, ask) -> None:
+    with Session(*example("c17"), program=STAND_IN) as session:
+        with pytest.raises(UsageError, match="^'\u00e9' is no name: .*, and no letter outside ASCII$"):
+            ask(session)
+
+
 def test_numbers_of_numpy(example, program) -> None:
     numpy = pytest.importorskip("numpy", reason="numpy is missing (Debian's package python3-numpy)")
     with Session(*example("c17"), program=program, shards=numpy.int64(2)) as session:

@@ -8,7 +8,7 @@ from dataclasses import field
 from typing import Any, Union
 
 from ..errors import FormatError, reason_of, type_of_path
-from ..formats.text import is_name
+from ..formats.text import RULE_OF_NAMES, is_name
 from ..limits import NAME_LIMIT
 from ..records import dataclass
 
@@ -234,7 +234,7 @@ class Names:
             return
         for _, name in public:
             if not is_name(name) or len(name) > NAME_LIMIT:
-                cause = f"it has more than {NAME_LIMIT} letters" if is_name(name) else "it may have no blank and none of (, ), comma, = and #"
+                cause = f"it has more than {NAME_LIMIT} letters" if is_name(name) else RULE_OF_NAMES
                 raise self._module.fault(f"no signal of a netlist may have the name {ascii(name)[1:-1]}, since {cause}: rename it in the source")
         chosen = self._inputs.get(bit) or min(public, key=lambda found: self._rank(bit, *found))[1]
         self.of[bit] = chosen

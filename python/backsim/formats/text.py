@@ -90,6 +90,10 @@ def rows_of(data: bytes) -> Iterator[Row]:
             yield Row(number, words)
 
 
+# what a person is told of a name that is none
+RULE_OF_NAMES = "it may have no blank and none of (, ), comma, = and #, and no letter outside ASCII"
+
+
 def is_name(word: str) -> bool:
     """Whether the word is a name: bytes from 33 to 126 that are none of `(`, `)`, `,`, `=` and `#`."""
     return NAME.fullmatch(word) is not None

@@ -11,7 +11,7 @@ from typing import Any, Generic, TypeVar
 from ..circuit import buses
 from ..errors import UsageError, type_of_path
 from ..formats.script import AtLine, FirstLine, Line, StatsLine, StuckLine, Trim, VcdLine, WaveLine, WhyLine
-from ..formats.text import is_name
+from ..formats.text import RULE_OF_NAMES, is_name
 from ..formats.units import Moment
 from ..limits import LINE_LIMIT, MOST_ASKED_TIME, MOST_BUDGET, MOST_CELLS
 from ..values import Answer, At, Budget, Dump, First, Past, Proof, Stats, Stuck, Trimmed, Unknown, Wave
@@ -157,9 +157,9 @@ def stuck(known: Names, site: str, value: str | int, name: str, start: Moment, s
     """Asks for the waveform of the name where the signal `site` has the value at all times."""
     bits, (begin, end), budget = _checked(known, name, (start, stop), budget)
     held = str(value)
-    if not isinstance(site, str) or not is_name(site) or held not in ("0", "1"):
+    _check_name(site)
+    if held not in ("0", "1"):
         raise UsageError(f"a signal is stuck at 0 or 1, and not {site!r} at {value!r}")
-    _check_length(site)
     lines = tuple(StuckLine(site, held, bit, begin, end, budget) for bit in bits)
     if bits == (name,):
         return Question(lines, _only)
@@ -169,16 +169,17 @@ def stuck(known: Names, site: str, value: str | int, name: str, start: Moment, s
 def _checked(known: Names, name: str, times: tuple[Moment, ...], budget: int | None) -> tuple[tuple[str, ...], list[int], int | None]:
     """The bits of the name, the times and the budget, where a line can ask for it at these times with this budget; else UsageError."""
     units = [known.time(time) for time in times]
-    if not isinstance(name, str) or not _is_name(name):
-        raise UsageError(f"{name!r} is no name: it may have no blank and none of (, ), comma, = and #")
-    _check_length(name)
+    _check_name(name)
     whole = [whole_number(time, "time", 0, MOST_ASKED_TIME) for time in units]
     if budget is not None:
         budget = whole_number(budget, "budget", 0, MOST_BUDGET)
     return known.bits(name) if name[-1] == "]" else (name,), whole, budget
 
 
-def _check_length(name: str) -> None:
+def _check_name(name: object) -> None:
+    """UsageError where it is no name, or one for which a line has no room."""
+    if not isinstance(name, str) or not _is_name(name):
+        raise UsageError(f"{name!r} is no name: {RULE_OF_NAMES}")
     if len(name) > _MOST_NAME:
         raise UsageError(f"`{name[:40]}..` has {len(name):,} letters, more than the {_MOST_NAME:,} that a line has room for")
 
