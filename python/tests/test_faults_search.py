@@ -370,6 +370,7 @@ def test_bad_words_are_said_in_one_line(words: list[str], cause: str, tools, pat
 
 @pytest.mark.parametrize("words, cause", [
     (["--prove-left", "nowhere/kept"], "nowhere/kept: it can't be written: No such file or directory"),
+    (["--prove-left", "/dev/full"], "/dev/full: it is no regular file, which --prove-left wants, to go on with what it keeps"),
     (["--prove-left", "one", "--left", "one"], "one: two of the files that the command is told to write are this one")])
 def test_a_file_of_proofs_that_can_not_be_is_said_before_the_work(words: list[str], cause: str, tools, patterns, tmp_path) -> None:
     run = tools("faults", *C17, patterns, "--period", 10, *words, cwd=tmp_path, env={"BACKSIM": "/bin/false"})

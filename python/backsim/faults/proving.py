@@ -38,6 +38,8 @@ class Kept:
         self._file: BinaryIO | None = None
         self._names = {text_of(own.shown_as, lines): own for own in plan.classes}
         self.outcomes: dict[FaultClass, Outcome] = {}
+        if path.exists() and not path.is_file():
+            raise FormatError(path, None, "it is no regular file, which --prove-left wants, to go on with what it keeps")
         self._whole = self._read() if path.exists() else 0
 
     def _read(self) -> int:
