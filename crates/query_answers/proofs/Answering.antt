@@ -13,21 +13,24 @@ use Rattle.journal_meaning.proofs.Callers.{grows-none}
 use Rattle.journal_meaning.specs.declared.batch.Query.{Query}
 use Rattle.journal_meaning.specs.Batches.{Batch, Site, IsNeededBy, NeedOf}
 use Rattle.journal_meaning.specs.Lawful.{IsLawful}
+use Rattle.journal_meaning.specs.Pieces.{IsStart}
 use Rattle.session_meaning.specs.Explanations.{Explains, IsExplained}
 use Rattle.session_meaning.specs.declared.Verdict.TheVariants.{Ask}
 use Rattle.reply_lines.specs.declared.reply.Outcome.TheVariants.{Budget}
 use Rattle.plan_machine.specs.Shards.{Shard}
-use Rattle.plan_machine.specs.Settle.{journals_of}
+use Rattle.plan_machine.specs.Settle.{journals_of, charge_of, sub_query}
 use Rattle.plan_machine.specs.Standings.{IsOpen, IsStanding}
 use Rattle.plan_machine.proofs.Callers.{begins-query, settles-closed, contains-none}
 use Rattle.memo_shards.specs.KeptShards.{KeptShard}
 use Rattle.plan_core.specs.Parts.{shards_in}
-use Rattle.plan_core.specs.asked.Asked.{AsksOn}
+use Rattle.plan_core.specs.asked.Asked.{HasAsked, AsksOn}
 use Rattle.design.specs.PinWalks.{IsPoint}
 use Rattle.plan_core.specs.asked.Memos.{AreFreeShards, entries_of}
 use Rattle.plan_core.specs.asked.Standings.{live, standing}
+use Rattle.plan_core.proofs.Callers.{root-covered}
+use Rattle.query_answers.specs.asking.inner.AskedMemos.{AskedMemo, GoesOnAsking, start_for}
 use Rattle.query_answers.specs.explanations.inner.Gathered.{AreExplained}
-use Rattle.query_answers.proofs.AskedOn.{asks-advance}
+use Rattle.query_answers.proofs.AskedOn.{asks-advance, turned-asking, root-starts, root-goes-on}
 
 module _ (b : Batch) (lawful : IsLawful b) (opening : ℕ → List SignalCell) (q : Query) (queries : b.queries ≡ q ∷ []) (window : q.to ≡ q.from + 1) where
   abbrev root : Point
@@ -49,6 +52,23 @@ module _ (b : Batch) (lawful : IsLawful b) (opening : ℕ → List SignalCell) (
   -- and it needs it
   pub root-needed : b.site ≡ None → IsEvaluable b.circuit q.signal q.from → IsNeededBy b q root
   root-needed site e = subst (λ (s : Option Site). NeedOf b.circuit s q root) (sym site) (Root (First (omega arith)) e)
+
+  -- it is asked for, once the memo was turned to the query
+  module _ (site : b.site ≡ None) (old : AskedMemo) (ms : List KeptShard) (turned : old ≡ record { memo = ms; query = q }) where
+    same : old.query ≡ q
+    same = ap (λ (a : AskedMemo). a.query) turned
+
+    pub asked-starts : IsEvaluable b.circuit q.signal q.from → IsStart b (start_for old root)
+    asked-starts = root-starts b lawful opening site q known old same q.from (First (omega arith))
+
+    module _ (new : AskedMemo) (r : Bool) (h : HasAsked b opening (start_for old root) (shards_in old.memo) (shards_in new.memo) r) (s : Bool) (is : r ≡ s) where
+      pub asked-on : new.query ≡ old.query → GoesOnAsking b opening (record { memo = ms; query = q }) new s
+      asked-on stays = turned-asking b opening old ms q turned new r s is (root-goes-on b lawful opening site q known old same q.from (First (omega arith)) new r h stays)
+
+      pub asked-covered : s ≡ false → IsCovered b.circuit (entries_of new.memo) root
+      asked-covered found =
+          root-covered b opening (sub_query old.query root) root.time (charge_of (entries_of old.memo) old.query) (shards_in old.memo) (shards_in new.memo)
+          (subst (HasAsked b opening (start_for old root) (shards_in old.memo) (shards_in new.memo)) (is ∙ found) h)
 
   -- nothing is recorded yet
   pub begins-standing : (ms : List KeptShard) → AreFreeShards b opening ms → entries_of ms ≡ [] → IsStanding b opening q [] (shards_in ms) (live ms)

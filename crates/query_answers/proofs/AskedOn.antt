@@ -1,5 +1,6 @@
 -- What stays while a query is asked for, one point after another.
-use Rattle.std.proofs.Common.{◌≡◌, ℕ, Bool, false, List, Contains, None, Option, Some, refl, sym, ap, subst, ◌∙◌, inl, inr, arith}
+use Rattle.std.proofs.Common.{◌≡◌, ℕ, Bool, false, List, All, Contains, None, Option, Some, IfSome, refl, sym, ap, subst, ◌∙◌, inl, inr, arith}
+use Rattle.std.proofs.lemmas.List.Elements.{All-nil, All-weaker, All-contains_itself}
 use Rattle.valid_intervals.specs.declared.Point.{Point}
 use Rattle.valid_intervals.specs.declared.SignalCell.{SignalCell}
 use Rattle.circuit_meaning.specs.Circuit.{Circuit}
@@ -9,15 +10,16 @@ use Rattle.journal_meaning.specs.declared.batch.Query.{Query}
 use Rattle.journal_meaning.specs.Answers.{IsCovered}
 use Rattle.journal_meaning.specs.Batches.{Batch, IsNeededBy, window_of}
 use Rattle.journal_meaning.specs.Lawful.{IsLawful}
+use Rattle.journal_meaning.specs.Listed.{IsRightEntry}
 use Rattle.journal_meaning.specs.Pieces.{Start, IsStart}
 use Rattle.plan_machine.specs.Shards.{Shard}
 use Rattle.plan_machine.specs.Settle.{Standing, entries_in, charge_of, child_start, sub_query}
 use Rattle.plan_machine.specs.Standings.{IsStanding, IsAskedFor, Advances, Reaches}
-use Rattle.plan_machine.proofs.Callers.{stays, then, child-asked, child-start, asked-reaches}
+use Rattle.plan_machine.proofs.Callers.{stays, then, child-asked, child-start, asked-reaches, right-of}
 use Rattle.memo_shards.specs.KeptShards.{KeptShard}
 use Rattle.plan_core.specs.Parts.{shards_in}
 use Rattle.plan_core.specs.asked.Asked.{HasAsked, AsksOn, Nothing, Needed}
-use Rattle.plan_core.specs.asked.Memos.{entries_of, asked_at}
+use Rattle.plan_core.specs.asked.Memos.{AreFreeShards, entries_of, asked_at}
 use Rattle.plan_core.specs.asked.Standings.{live, standing}
 use Rattle.plan_core.proofs.Callers.{asks-then}
 use Rattle.query_answers.specs.asking.inner.AskedMemos.{AskedMemo, GoesOnAsking, start_for, shards_left}
@@ -67,9 +69,18 @@ module _ (b : Batch) (opening : ℕ → List SignalCell) where
   pub turned-asking : (old : AskedMemo) (ms : List KeptShard) (q : Query) → old ≡ record { memo = ms; query = q } → (new : AskedMemo) (r s : Bool) → r ≡ s → GoesOnAsking b opening old new r → GoesOnAsking b opening (record { memo = ms; query = q }) new s
   turned-asking old ms q turned new r s same g = subst (λ (a : AskedMemo). GoesOnAsking b opening a new s) turned (subst (GoesOnAsking b opening old new) same g)
 
+  -- no entry is lost
+  pub asking-grows : (old new : AskedMemo) (r : Bool) → GoesOnAsking b opening old new r → (e : Entry) → Contains (entries_of old.memo) e → Contains (entries_of new.memo) e
+  asking-grows old new r g = entries-stay old.query (shards_in old.memo) false (shards_in new.memo) r g.asks
+
   -- what was covered stays covered
   pub asking-covers : (old new : AskedMemo) (r : Bool) → GoesOnAsking b opening old new r → (p : Point) → IsCovered b.circuit (entries_of old.memo) p → IsCovered b.circuit (entries_of new.memo) p
-  asking-covers old new r g = covered-kept b.circuit (entries_of old.memo) (entries_of new.memo) (entries-stay old.query (shards_in old.memo) false (shards_in new.memo) r g.asks)
+  asking-covers old new r g = covered-kept b.circuit (entries_of old.memo) (entries_of new.memo) (asking-grows old new r g)
+
+  -- each entry is right
+  pub entries-right : IsLawful b → (memo : Option (List KeptShard)) → IfSome memo (AreFreeShards b opening) → All (IsRightEntry b.circuit) (entries_of (shards_left memo))
+  entries-right lawful None free = All-nil (IsRightEntry b.circuit)
+  entries-right lawful (Some ms) free = All-weaker (Contains (entries_of ms)) (IsRightEntry b.circuit) (right-of b lawful opening (shards_in ms) free.fresh) (entries_of ms) (All-contains_itself (entries_of ms))
 
 module _ (b : Batch) (lawful : IsLawful b) (opening : ℕ → List SignalCell) (q : Query) (start : List Entry) (first : List Shard) where
   abbrev at : List Shard → Bool → Standing

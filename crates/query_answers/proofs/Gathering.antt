@@ -25,9 +25,9 @@ use Rattle.why_proofs.proofs.Callers.{steady}
 use Rattle.query_answers.specs.declared.explanations.waiting.LinePlace.{LinePlace}
 use Rattle.query_answers.specs.declared.explanations.waiting.Asked.{Asked}
 use Rattle.query_answers.specs.explanations.inner.Waiting.{IsBelow, line_of, point_of, place_of, Places, TakesLast}
-use Rattle.query_answers.specs.explanations.inner.Gathered.{IsWanted, IsSourceAdded, IsOfSource, Looks, IsKept, IsSourceKept, AreSourcesKept, AreGathered, rank}
+use Rattle.query_answers.specs.explanations.inner.Gathered.{IsWanted, IsSourceAdded, IsOfSource, Notes, IsKept, IsSourceKept, AreSourcesKept, AreGathered, rank}
 use Rattle.query_answers.proofs.Moves.{IsMoved, source-child, source-earlier, sources-moved, never-moves}
-use Rattle.query_answers.proofs.Looks.{told-grows}
+use Rattle.query_answers.proofs.Noting.{told-grows}
 
 pub all-from : {A : Type 0} (P : A → Type 0) (xs : List A) → ((x : A) → Contains xs x → P x) → All P xs
 all-from P xs f = All-weaker (Contains xs) P f xs (All-contains_itself xs)
@@ -154,7 +154,7 @@ module _ (b : Batch) (lawful : IsLawful b) (q : Query) (known : Contains b.queri
               let since : (span c y.signal y.time).start ≤ r.time = m.1.low in
               omega arith
 
-      module _ (fs : List Entry) (new : Places) (g : AreGathered b q es (line_of a ∷ lines) old) (l : Looks c es fs old new (looked_points c a.signal a.time)) where
+      module _ (fs : List Entry) (grows : (e : Entry) → Contains es e → Contains fs e) (new : Places) (g : AreGathered b q es (line_of a ∷ lines) old) (l : Notes c fs old new (looked_points c a.signal a.time)) where
         -- a cell that it comes from is wanted as well
         source-wanted : (k : LinePlace) (y : Asked) → IsOfSource c fs (looked_points c a.signal a.time) k y → IsWanted b q fs y
         source-wanted k y s = record {
@@ -166,9 +166,9 @@ module _ (b : Batch) (lawful : IsLawful b) (q : Query) (known : Contains b.queri
         pub gathers : AreGathered b q fs (line_of a ∷ lines) new
         gathers = record {
           root = source-on c (line_of a ∷ lines) (line_of a ∷ lines) old new (kept-on (line_of a ∷ lines) old new l.kept) (Some (record { signal = q.signal; time = q.from })) g.root;
-          taken = λ x h. let k = g.taken x h in (k.0, wanted-grows es fs l.grows (record { signal = x.signal; time = k.0; cell = x.cell }) k.1);
+          taken = λ x h. let k = g.taken x h in (k.0, wanted-grows es fs grows (record { signal = x.signal; time = k.0; cell = x.cell }) k.1);
           places = λ k y e. elim (l.only k y e) [ inl was ↦ g.places k y was | inr s ↦ s.place ];
-          waiting = λ k y e. elim (l.only k y e) [ inl was ↦ wanted-grows es fs l.grows y (g.waiting k y was) | inr s ↦ source-wanted k y s ];
+          waiting = λ k y e. elim (l.only k y e) [ inl was ↦ wanted-grows es fs grows y (g.waiting k y was) | inr s ↦ source-wanted k y s ];
           order = g.order;
           below = λ k y e x h. elim (l.only k y e) [
             | inl was ↦ g.below k y was x h
@@ -209,22 +209,22 @@ module _ (b : Batch) (lawful : IsLawful b) (q : Query) (known : Contains b.queri
     pub gathered : AreGathered b q fs (line_of a ∷ lines) new
     pub sources : (x : SignalCell) → Contains (line_of a ∷ lines) x → AreSourcesKept c (line_of a ∷ lines) new x
 
-  pub steps : (es fs : List Entry) (lines : List SignalCell) (old now new : Places) (a : Asked) → AreGathered b q es lines old → ((x : SignalCell) → Contains lines x → AreSourcesKept c lines old x) → TakesLast old a now
-      → Looks c es fs now new (looked_points c a.signal a.time) → IsStep fs lines a new
-  steps es fs lines old now new a g kept t l =
+  pub steps : (es fs : List Entry) → ((e : Entry) → Contains es e → Contains fs e) → (lines : List SignalCell) (old now new : Places) (a : Asked) → AreGathered b q es lines old → ((x : SignalCell) → Contains lines x → AreSourcesKept c lines old x) → TakesLast old a now
+      → Notes c fs now new (looked_points c a.signal a.time) → IsStep fs lines a new
+  steps es fs grows lines old now new a g kept t l =
       let w = g.waiting t.place a t.was in
       let taken = takes-line es lines old a now g t in
       record {
-        gathered = gathers es lines now a w fs new taken l;
+        gathered = gathers es lines now a w fs grows new taken l;
         sources = λ x h. elim (contains-cases (line_of a) lines x h) [
-          | inl same ↦ subst (AreSourcesKept c (line_of a ∷ lines) new) same (sources-kept es lines now a w fs new taken l)
+          | inl same ↦ subst (AreSourcesKept c (line_of a ∷ lines) new) same (sources-kept es lines now a w fs grows new taken l)
           | inr more ↦ sources-looked c (line_of a ∷ lines) now new l.kept x (sources-taken c lines old now a t x (kept x more))
         ];
       }
 
-  -- before any line is taken: the query's own point was asked for
-  pub begins : (es fs : List Entry) (old new : Places) → ((k : LinePlace) → old k ≡ None) → (IsEvaluable c q.signal q.from → IsNeededBy b q (point_at q.signal q.from)) → Looks c es fs old new (Some (point_at q.signal q.from) ∷ []) → AreGathered b q fs [] new
-  begins es fs old new none needed l = record {
+  -- before any line is taken: the query's own point was noted
+  pub begins : (es : List Entry) (old new : Places) → ((k : LinePlace) → old k ≡ None) → (IsEvaluable c q.signal q.from → IsNeededBy b q (point_at q.signal q.from)) → Notes c es old new (Some (point_at q.signal q.from) ∷ []) → AreGathered b q es [] new
+  begins es old new none needed l = record {
     root = root l.sources.0;
     taken = λ x h. absurd (contains-none x [] refl h);
     places = λ k a e. (only k a e).place;
@@ -233,13 +233,13 @@ module _ (b : Batch) (lawful : IsLawful b) (q : Query) (known : Contains b.queri
     below = λ k a e x h. absurd (contains-none x [] refl h);
   }
     where
-      only : (k : LinePlace) (a : Asked) → new k ≡ Some a → IsOfSource c fs (Some (point_at q.signal q.from) ∷ []) k a
+      only : (k : LinePlace) (a : Asked) → new k ≡ Some a → IsOfSource c es (Some (point_at q.signal q.from) ∷ []) k a
       only k a e = elim (l.only k a e) [ inl was ↦ absurd (let n = none k in cc (n, was)) | inr s ↦ s ]
 
       at-root : (k : LinePlace) (a : Asked) → new k ≡ Some a → point_at q.signal q.from ≡ point_of a
       at-root k a e = let same = contains-one (Some (point_at q.signal q.from)) (Some (point_of a)) (only k a e).source in cc
 
-      wanted : (k : LinePlace) (a : Asked) → new k ≡ Some a → IsWanted b q fs a
+      wanted : (k : LinePlace) (a : Asked) → new k ≡ Some a → IsWanted b q es a
       wanted k a e =
           let told = (only k a e).told in
           let same = at-root k a e in
@@ -255,7 +255,7 @@ module _ (b : Batch) (lawful : IsLawful b) (q : Query) (known : Contains b.queri
           let a = h.0 in
           let same = at-root k a h.1 in
           let w = wanted k a h.1 in
-          let inside = has-time a w.told.right (in-time fs a w) in
+          let inside = has-time a w.told.right (in-time es a w) in
           inr (line_of a, inr (k, a, h.1, refl), sym (ap (λ (p : Point). p.signal) same), subst (IsIn a.cell.span) (sym (ap (λ (p : Point). p.time) same)) inside)
 
   -- each line that is taken comes before those that were

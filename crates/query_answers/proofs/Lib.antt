@@ -14,7 +14,7 @@ mod Telling
 mod Ended
 mod Following
 mod Gathering
-mod Looks
+mod Noting
 mod Moves
 mod Places
 mod Held

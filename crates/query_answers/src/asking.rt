@@ -4,6 +4,7 @@
 //! type the batch is lawful, the design has its circuit, no point is claimed in the memo, and the charge is what the query filled in the
 //! batch so far, at most its budget. [`Asking::turn_to`] takes the next query. [`Asking::cell`] answers the cell of a point by `reach` of
 //! `plan_core::asked`. Where a strand has to ask for it, that is one for this point alone, with the query's number and budget.
+//! [`Asking::look`] asks so for what a pin reads, and a walk that begins with [`Asking::pins_of`] asks for all that its point comes from.
 //!
 //! A call that is refused memory drops the shards. From then on there is none, and each call that needs them is an `Err`.
 //!
@@ -17,17 +18,20 @@
 //! let shards = asking.into_shards()?;
 //! ```
 
-ghost use Rattle.std.specs.Prelude.{◌≡◌, IfOk, IfSome, OnOk};
+ghost use Rattle.std.specs.Prelude.{◌≡◌, All, Contains, IfOk, IfSome, OnOk, OnSome};
 ghost use Rattle.circuit_meaning.specs.Cells.{cell_at};
 ghost use Rattle.circuit_meaning.specs.Need.{IsEvaluable};
 ghost use Rattle.design.specs.PinWalks.{IsPoint, IsPinWalk, IsLooking, LooksOn, cell_there, next_point};
+ghost use Rattle.journal_meaning.specs.Batches.{IsNeededBy};
 ghost use Rattle.journal_meaning.specs.Lawful.{IsLawful};
+ghost use Rattle.journal_meaning.specs.Listed.{IsRightEntry};
 ghost use Rattle.journal_meaning.specs.Pieces.{IsStart};
 ghost use Rattle.plan_machine.specs.Settle.{charge_of};
 ghost use Rattle.plan_core.specs.Parts.{shards_in};
 ghost use Rattle.plan_core.specs.asked.Asked.{HasAsked};
 ghost use Rattle.plan_core.specs.asked.Memos.{AreFreeShards, entries_of, is_missing};
-ghost use Rattle.query_answers.specs.asking.inner.AskedMemos.{start_for};
+ghost use Rattle.plan_core.specs.asked.Sources.{IsSourceCovered};
+ghost use Rattle.query_answers.specs.asking.inner.AskedMemos.{GoesOnAsking, heard_at, start_for};
 
 use demand_points::{BatchDesign, BatchName};
 use design::{Design, PinWalk};
@@ -37,6 +41,13 @@ use plan_core::asked::{Memo, reach};
 use std::marker::Model;
 use texts::OutOfMemory;
 use valid_intervals::{Cell, Point};
+
+/// The walk once it has looked at one pin more, and what the pin reads: a point and its cell; none where that is before time 0.
+#[derive(Clone, Copy)]
+pub struct Looked {
+    pub walk: PinWalk,
+    pub heard: Option<(Point, Cell)>,
+}
 
 /// A query for which cells are asked: the design, the memo, and what the query was charged. There is no memo once memory ran out.
 #[derive(Drop)]
@@ -78,9 +89,10 @@ impl<'d, B: BatchName> Asking<'d, B> {
         }
     }
 
-    /// It does nothing, and hands out that the batch is lawful.
+    /// It does nothing, and hands out that the batch is lawful, and that each entry of the memo is right.
     pub fn facts(&self)
-        ensures { IsLawful B.batch }
+        ensures lawful { IsLawful B.batch }
+        ensures entries { All (IsRightEntry B.batch.circuit) (entries_of self.now.memo) }
     {
         let _charge = self.charge;
     }
@@ -160,7 +172,7 @@ impl<'d, B: BatchName> Asking<'d, B> {
     }
 
     /// The walk once it has looked at the next pin, whose cell is heard; before time 0 there is none.
-    pub fn see(&self, walk: &PinWalk, heard: Option<Cell>) -> PinWalk
+    fn see(&self, walk: &PinWalk, heard: Option<Cell>) -> PinWalk
         requires walk { IsPinWalk B.batch.circuit walk.now }
         requires looking { IsLooking B.batch.circuit walk.now }
         requires heard { heard ≡ cell_there B.batch.circuit (next_point B.batch.circuit walk.now) }
@@ -199,5 +211,40 @@ impl<'d, B: BatchName> Asking<'d, B> {
                 Err(OutOfMemory)
             }
         }
+    }
+
+    /// Looks at the next pin of a point that the query needs, and asks for the cell that the pin reads; none if the query is refused. An
+    /// `Err` drops the shards.
+    pub fn look(&mut self, walk: &PinWalk) -> Result<Option<Looked>, OutOfMemory>
+        requires known { Contains B.batch.queries self.old.query }
+        requires walk { IsPinWalk B.batch.circuit walk.now }
+        requires looking { IsLooking B.batch.circuit walk.now }
+        requires needed { IsNeededBy B.batch self.old.query walk.now.point }
+        ensures walk { IfOk result (λ r. IfSome r
+            (λ looked. LooksOn B.batch.circuit walk.now looked.walk)) }
+        ensures heard { IfOk result (λ r. IfSome r (λ looked. looked.heard
+            ≡ heard_at B.batch.circuit (next_point B.batch.circuit walk.now))) }
+        ensures covered { IfOk result (λ r. OnSome r (IsSourceCovered B.batch.circuit
+            (entries_of self.new.memo) (next_point B.batch.circuit walk.now))) }
+        ensures asks { IfOk result (λ r. GoesOnAsking B.batch B.opening self.old self.new
+            (is_missing r)) }
+    {
+        self.facts();
+        let Some(p) = walk.next_source() else {
+            let next = self.see(walk, None);
+            return Ok(Some(Looked {
+                walk: next,
+                heard: None,
+            }));
+        };
+        let Some(cell) = self.cell(p)? else {
+            return Ok(None);
+        };
+        let heard = (p, cell);
+        let next = self.see(walk, Some(heard.1));
+        Ok(Some(Looked {
+            walk: next,
+            heard: Some(heard),
+        }))
     }
 }

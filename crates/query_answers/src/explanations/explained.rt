@@ -15,7 +15,7 @@ ghost use Rattle.plan_core.specs.asked.Memos.{entries_of};
 ghost use Rattle.reply_lines.specs.Replies.{is_budget};
 
 use crate::asking::Asking;
-use crate::explanations::children::hear;
+use crate::explanations::children::note;
 use crate::explanations::lines::gather;
 use crate::explanations::waiting::Waiting;
 use demand_points::{BatchDesign, BatchName};
@@ -59,14 +59,16 @@ fn gather_answer<B: BatchName>(
         signal: query.signal,
         time: query.from,
     };
-    let Some(cell) = hear(asking, point, &mut waiting)? else {
+    let Some(cell) = asking.cell(point)? else {
         return Ok(Outcome::Budget(query.budget));
     };
+    let value = cell.value;
+    note(asking, point, cell, &mut waiting)?;
     match gather(alloc, asking, waiting)? {
         None => Ok(Outcome::Budget(query.budget)),
         Some(lines) => Ok(Outcome::Answer(Explanation {
             cells: CellList::from_vec(lines),
-            value: cell.value,
+            value,
         })),
     }
 }

@@ -1,49 +1,21 @@
 //! Settlement: one strand after another, each alone, asks for what is missing of a batch.
 
-ghost use Rattle.std.specs.Prelude.{◌≡◌, List, All, Contains, None, false, IfOk, IfSome, OnSome};
+ghost use Rattle.std.specs.Prelude.{◌≡◌, List, All, Contains, None, false, IfOk, IfSome};
 ghost use Rattle.circuit_meaning.specs.Forward.{wave};
-ghost use Rattle.design.specs.PinWalks.{IsPinWalk, IsLooking, LooksOn, next_point};
 ghost use Rattle.journal_meaning.specs.declared.Entry.{Entry as EntryRecord};
 ghost use Rattle.journal_meaning.specs.Batches.{IsNeededBy};
 ghost use Rattle.plan_machine.specs.Shards.{Shard as ShardRecord};
 ghost use Rattle.plan_machine.specs.Standings.{IsStanding, IsVisited, IsCoveredTo};
 ghost use Rattle.plan_core.specs.asked.Memos.{entries_of, is_missing};
 ghost use Rattle.plan_core.specs.asked.Standings.{live, standing};
-ghost use Rattle.plan_core.specs.asked.Sources.{IsSourceCovered};
 ghost use Rattle.query_answers.specs.asking.inner.AskedMemos.{GoesOnAsking};
 
 use crate::asking::Asking;
 use demand_points::BatchName;
-use design::PinWalk;
 use std::alloc::Global;
 use texts::OutOfMemory;
 use valid_intervals::Point;
 use window_walks::{Runs, WindowWalk};
-
-/// Looks at the next pin of a filled point; none if the query is refused.
-fn look<B: BatchName>(
-    asking: &mut Asking<'_, B>,
-    walk: &PinWalk,
-) -> Result<Option<PinWalk>, OutOfMemory>
-    requires known { Contains B.batch.queries asking.old.query }
-    requires walk { IsPinWalk B.batch.circuit walk.now }
-    requires looking { IsLooking B.batch.circuit walk.now }
-    requires needed { IsNeededBy B.batch asking.old.query walk.now.point }
-    ensures walk { IfOk result (λ r. IfSome r (LooksOn B.batch.circuit walk.now)) }
-    ensures covered { IfOk result (λ r. OnSome r (IsSourceCovered B.batch.circuit
-        (entries_of asking.new.memo) (next_point B.batch.circuit walk.now))) }
-    ensures asks { IfOk result (λ r. GoesOnAsking B.batch B.opening asking.old asking.new
-        (is_missing r)) }
-{
-    asking.facts();
-    let Some(p) = walk.next_source() else {
-        return Ok(Some(asking.see(walk, None)));
-    };
-    match asking.cell(p)? {
-        None => Ok(None),
-        Some(cell) => Ok(Some(asking.see(walk, Some(cell)))),
-    }
-}
 
 /// Asks for the missing children of a filled point. Returns whether the query is refused.
 fn settle_children<B: BatchName>(asking: &mut Asking<'_, B>, p: Point) -> Result<bool, OutOfMemory>
@@ -57,9 +29,9 @@ fn settle_children<B: BatchName>(asking: &mut Asking<'_, B>, p: Point) -> Result
     asking.facts();
     let mut walk = asking.pins_of(p);
     'pins: while !walk.is_done() {
-        match look(asking, &walk)? {
+        match asking.look(&walk)? {
             None => return Ok(true),
-            Some(next) => walk = next,
+            Some(looked) => walk = looked.walk,
         }
     }
     Ok(false)

@@ -1,7 +1,10 @@
 -- A memo that is asked for the cells of a query, one point after another.
-use Rattle.std.specs.Prelude.{◌≡◌, ℕ, Bool, false, List, [], Option, Some, None, IfSome}
+use Rattle.std.specs.Prelude.{◌≡◌, ℕ, Bool, false, List, [], Option, Some, None, option_map, IfSome}
+use Rattle.valid_intervals.specs.declared.Cell.{Cell}
 use Rattle.valid_intervals.specs.declared.Point.{Point}
 use Rattle.valid_intervals.specs.declared.SignalCell.{SignalCell}
+use Rattle.circuit_meaning.specs.Circuit.{Circuit}
+use Rattle.circuit_meaning.specs.Cells.{cell_at}
 use Rattle.journal_meaning.specs.declared.batch.Query.{Query}
 use Rattle.journal_meaning.specs.Batches.{Batch}
 use Rattle.journal_meaning.specs.Lawful.{IsLawful}
@@ -26,6 +29,10 @@ pub record IsAsking (b : Batch) (opening : ℕ → List SignalCell) (memo : Opti
   pub lawful : IsLawful b
   pub free : IfSome memo (AreFreeShards b opening)
   pub counts : charge ≡ charge_of (entries_of (shards_left memo)) q
+
+-- what is heard of the point that a pin reads, where it reads one: the point and its cell
+abbrev pub heard_at : Circuit → Option Point → Option (Point × Cell)
+heard_at c o = option_map (λ (p : Point). (p, cell_at c p)) o
 
 -- with what a strand is started that asks for a point
 abbrev pub start_for : AskedMemo → Point → Start

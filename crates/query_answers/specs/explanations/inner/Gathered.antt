@@ -40,11 +40,10 @@ pub record IsOfSource (c : Circuit) (es : List Entry) (os : List (Option Point))
   pub told : IsTold c es a
   pub source : Contains os (Some (point_of a))
 
--- Sources of pins were asked for: entries were added, and nothing but their cells.
-pub record Looks (c : Circuit) (es fs : List Entry) (old new : Places) (os : List (Option Point)) : Type 0 where
-  pub grows : (e : Entry) → Contains es e → Contains fs e
+-- Sources of pins were noted: their cells wait, and nothing else was added.
+pub record Notes (c : Circuit) (es : List Entry) (old new : Places) (os : List (Option Point)) : Type 0 where
   pub kept : (k : LinePlace) (a : Asked) → old k ≡ Some a → new k ≡ Some a
-  pub only : (k : LinePlace) (a : Asked) → new k ≡ Some a → (old k ≡ Some a) ⊎ IsOfSource c fs os k a
+  pub only : (k : LinePlace) (a : Asked) → new k ≡ Some a → (old k ≡ Some a) ⊎ IsOfSource c es os k a
   pub sources : AllByRecursion (IsSourceAdded c new) os
 
 -- a line was taken, or its cell waits

@@ -1,17 +1,18 @@
-use Rattle.std.proofs.Common.{◌≡◌, ◌<◌, ◌++◌, true, false, List, [], ◌∷◌, Option, None, OnSome, Contains, get_or, take, length, sym, ap, subst, ◌∙◌, arith}
+use Rattle.std.proofs.Common.{◌≡◌, ◌∷◌, [], true, false, Option, None, Contains, take, sym, subst, ◌∙◌}
 use Rattle.std.specs.BTreeMap.{get}
-use Rattle.std.proofs.lemmas.List.{take_more}
 use Rattle.valid_intervals.specs.declared.Point.{Point}
 use Rattle.journal_meaning.specs.declared.batch.Query.{Query}
 use Rattle.journal_meaning.specs.Batches.{IsNeededBy}
 use Rattle.design.specs.PinWalks.{LooksOn, looked_at, next_point}
 use Rattle.plan_core.specs.asked.Memos.{entries_of, is_missing}
 use Rattle.plan_core.proofs.Callers.{some-of}
-use Rattle.query_answers.specs.asking.inner.AskedMemos.{GoesOnAsking}
+use Rattle.query_answers.specs.declared.asking.Looked.{Looked}
+use Rattle.query_answers.specs.asking.inner.AskedMemos.{GoesOnAsking, heard_at}
 use Rattle.query_answers.specs.explanations.inner.Waiting.{place_cmp}
-use Rattle.query_answers.specs.explanations.inner.Gathered.{Looks}
-use Rattle.query_answers.proofs.AskedOn.{asking-stays, asking-then}
-use Rattle.query_answers.proofs.Looks.{looks-none, looks-more}
+use Rattle.query_answers.specs.explanations.inner.Gathered.{Notes}
+use Rattle.query_answers.proofs.AskedOn.{asking-stays, asking-then, asking-grows}
+use Rattle.query_answers.proofs.Pins.{heard-some, heard-none}
+use Rattle.query_answers.proofs.Noting.{notes-none, notes-known, notes-pin}
 use Rattle.query_answers.proofs.explanations.children.ask_children.Goals as goal
 
 pub pins-init : goal.pins-init
@@ -22,7 +23,7 @@ pins-init g c =
     record {
       walk = c.pins_of-walk.ensures.walk;
       point = c.pins_of-walk.ensures.point;
-      looks = subst (λ n. Looks b.circuit es es places places (take n (looked_at b.circuit c.args.p))) (sym c.pins_of-walk.ensures.looked) (looks-none b.circuit es places);
+      notes = subst (λ n. Notes b.circuit es places places (take n (looked_at b.circuit c.args.p))) (sym c.pins_of-walk.ensures.looked) (notes-none b.circuit es places);
       asks = asking-stays b g.B.BatchName.opening c.args.asking.now;
     }
 
@@ -34,40 +35,57 @@ look-requires-clause-needed g c =
     let b = g.B.BatchName.batch in
     subst (λ (q : Query). IsNeededBy b q c.pins.walk.point) (sym c.pins.invariant.asks.query) (subst (IsNeededBy b c.args.asking.now.query) (sym c.pins.invariant.point) c.requires.needed)
 
+pub returns-in_default-clause-asks : goal.returns-in_default-clause-asks
+returns-in_default-clause-asks g c =
+    let b = g.B.BatchName.batch in
+    let mid = c.pins.asking in
+    let new = c.look.new.self in
+    asking-then b g.B.BatchName.opening c.args.asking.now mid new true c.pins.invariant.asks
+    (subst (λ o. GoesOnAsking b g.B.BatchName.opening mid new (is_missing o)) c.in_default.is c.in_ok-next.ensures.asks)
+
+pub pins-preserved-in_ok-note : goal.pins-preserved-in_ok-note
+pins-preserved-in_ok-note g c =
+    let b = g.B.BatchName.batch in
+    let d = b.circuit in
+    let opening = g.B.BatchName.opening in
+    let mid = c.pins.asking in
+    let new = c.look.new.self in
+    let walk = c.pins.walk in
+    let looked = c.in-Some.field-0 in
+    let before = get place_cmp c.pins.waiting.cells in
+    let after = get place_cmp c.note.new.waiting.cells in
+    let fs = entries_of new.memo in
+    let on = some-of (λ (x : Looked). LooksOn d walk x.walk) c.in_ok-next.field-0 looked c.in_ok-next.ensures.walk c.in-Some.is in
+    let heard = some-of (λ (x : Looked). x.heard ≡ heard_at d (next_point d walk)) c.in_ok-next.field-0 looked c.in_ok-next.ensures.heard c.in-Some.is in
+    let source = (heard-some d (next_point d walk) c.in-Some-heard.source c.in-Some-heard.cell (sym heard ∙ c.in-Some-heard.is)).0 in
+    let asks = subst (λ o. GoesOnAsking b opening mid new (is_missing o)) c.in-Some.is c.in_ok-next.ensures.asks in
+    record {
+      walk = on.walk;
+      point = on.point ∙ c.pins.invariant.point;
+      notes = notes-pin d (entries_of mid.memo) fs (asking-grows b opening mid new false asks) c.args.p walk looked.walk c.pins.invariant.point on (get place_cmp c.args.waiting.now.cells) before after c.pins.invariant.notes
+          (subst (λ (o : Option Point). Notes d fs before after (o ∷ [])) (sym source) c.in_ok-note.ensures);
+      asks = asking-then b opening c.args.asking.now mid new false c.pins.invariant.asks asks;
+    }
+
 pub pins-preserved : goal.pins-preserved
 pins-preserved g c =
     let b = g.B.BatchName.batch in
-    let p = c.args.p in
     let d = b.circuit in
-    let old = c.args.asking.now in
+    let opening = g.B.BatchName.opening in
     let mid = c.pins.asking in
-    let new = c.look.new.asking in
-    let n = c.pins.walk.looked in
-    let places = get place_cmp c.args.waiting.now.cells in
+    let new = c.look.new.self in
+    let walk = c.pins.walk in
+    let looked = c.in-Some.field-0 in
     let before = get place_cmp c.pins.waiting.cells in
-    let after = get place_cmp c.look.new.waiting.cells in
-    let on = some-of (LooksOn d c.pins.walk) c.in_ok-look.field-0 c.in-Some.next c.in_ok-look.ensures.walk c.in-Some.is in
-    let point : c.in-Some.next.point ≡ p = on.point ∙ c.pins.invariant.point in
-    let L : List (Option Point) = looked_at d p in
-    let there : looked_at d c.pins.walk.point ≡ L = ap (looked_at d) c.pins.invariant.point in
-    let size : length (looked_at d c.in-Some.next.point) ≡ length L = ap (λ (z : Point). length (looked_at d z)) point in
-    let low : n < length L = (let k = on.walk.looked in let m = on.looked in omega arith) in
-    let one : Looks d (entries_of mid.memo) (entries_of new.memo) before after (get_or L n None ∷ []) =
-    subst (λ (l : List (Option Point)). Looks d (entries_of mid.memo) (entries_of new.memo) before after (get_or l n None ∷ [])) there
-    (subst (λ o. OnSome o (Looks d (entries_of mid.memo) (entries_of new.memo) before after (next_point d c.pins.walk ∷ []))) c.in-Some.is c.in_ok-look.ensures.looks) in
-    let more : take c.in-Some.next.looked L ≡ take n L ++ get_or L n None ∷ [] = ap (λ k. take k L) on.looked ∙ take_more L n None low in
+    let fs = entries_of new.memo in
+    let on = some-of (λ (x : Looked). LooksOn d walk x.walk) c.in_ok-next.field-0 looked c.in_ok-next.ensures.walk c.in-Some.is in
+    let heard = some-of (λ (x : Looked). x.heard ≡ heard_at d (next_point d walk)) c.in_ok-next.field-0 looked c.in_ok-next.ensures.heard c.in-Some.is in
+    let source = heard-none d (next_point d walk) (sym heard ∙ c.in_default-heard.is) in
+    let asks = subst (λ o. GoesOnAsking b opening mid new (is_missing o)) c.in-Some.is c.in_ok-next.ensures.asks in
     record {
       walk = on.walk;
-      point = point;
-      looks = subst (Looks d (entries_of old.memo) (entries_of new.memo) places after) (sym more)
-          (looks-more d (entries_of old.memo) (entries_of mid.memo) (entries_of new.memo) places before after (take n L) (get_or L n None) c.pins.invariant.looks one);
-      asks = asking-then b g.B.BatchName.opening old mid new false c.pins.invariant.asks (subst (λ o. GoesOnAsking b g.B.BatchName.opening mid new (is_missing o)) c.in-Some.is c.in_ok-look.ensures.asks);
+      point = on.point ∙ c.pins.invariant.point;
+      notes = notes-pin d (entries_of mid.memo) fs (asking-grows b opening mid new false asks) c.args.p walk looked.walk c.pins.invariant.point on (get place_cmp c.args.waiting.now.cells) before before c.pins.invariant.notes
+          (subst (λ (o : Option Point). Notes d fs before before (o ∷ [])) (sym source) (notes-known d fs before None tt));
+      asks = asking-then b opening c.args.asking.now mid new false c.pins.invariant.asks asks;
     }
-
-pub returns-in-None-clause-asks : goal.returns-in-None-clause-asks
-returns-in-None-clause-asks g c =
-    let b = g.B.BatchName.batch in
-    let mid = c.pins.asking in
-    let new = c.look.new.asking in
-    asking-then b g.B.BatchName.opening c.args.asking.now mid new true c.pins.invariant.asks
-    (subst (λ o. GoesOnAsking b g.B.BatchName.opening mid new (is_missing o)) c.in-None.is c.in_ok-look.ensures.asks)

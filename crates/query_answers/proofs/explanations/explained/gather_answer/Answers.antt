@@ -1,40 +1,42 @@
-use Rattle.std.proofs.Common.{◌≡◌, true, false, List, [], ◌∷◌, Some, Contains, OnSome, refl, ap, sym, subst, arith}
+use Rattle.std.proofs.Common.{◌≡◌, true, false, List, [], Contains, refl, ap, sym, subst, arith}
 use Rattle.std.specs.BTreeMap.{get}
 use Rattle.std.specs.Global.{Vec}
 use Rattle.valid_intervals.specs.declared.Cell.{Cell}
 use Rattle.valid_intervals.specs.declared.SignalCell.{SignalCell}
 use Rattle.circuit_meaning.specs.Cells.{cell_at, point_at}
-use Rattle.circuit_meaning.specs.Need.{IsEvaluable}
 use Rattle.journal_meaning.specs.declared.batch.Query.{Query}
-use Rattle.journal_meaning.specs.Answers.{IsCovered}
-use Rattle.journal_meaning.specs.Batches.{IsNeededBy}
 use Rattle.session_meaning.specs.Explanations.{Explains}
 use Rattle.plan_core.specs.asked.Memos.{entries_of, is_missing}
 use Rattle.plan_core.proofs.Callers.{some-of}
-use Rattle.query_answers.specs.asking.inner.AskedMemos.{AskedMemo, GoesOnAsking}
+use Rattle.query_answers.specs.asking.inner.AskedMemos.{GoesOnAsking}
 use Rattle.query_answers.specs.explanations.inner.Waiting.{place_cmp}
-use Rattle.query_answers.specs.explanations.inner.Gathered.{Looks, AreGathered, AreExplained}
-use Rattle.query_answers.proofs.Answering.{known, root-point, root-needed, answers-proof, answers-budget, journals-grown}
-use Rattle.query_answers.proofs.AskedOn.{turned-asking, asking-then, asking-covers}
+use Rattle.query_answers.specs.explanations.inner.Gathered.{AreGathered, AreExplained}
+use Rattle.query_answers.proofs.Answering.{known, root-point, root-needed, asked-starts, asked-on, asked-covered, answers-proof, answers-budget, journals-grown}
+use Rattle.query_answers.proofs.AskedOn.{asking-then, asking-covers}
 use Rattle.query_answers.proofs.Gathering.{begins}
 use Rattle.query_answers.proofs.explanations.explained.gather_answer.Goals as goal
 
 pub turn_to-requires : goal.turn_to-requires
 turn_to-requires g c = rw c.requires.unused (omega arith)
 
-pub hear-requires-clause-known : goal.hear-requires-clause-known
-hear-requires-clause-known g c =
-    subst (λ (a : AskedMemo). Contains g.B.BatchName.batch.queries a.query) (sym c.turn_to.ensures.turned) (known g.B.BatchName.batch c.facts.ensures g.B.BatchName.opening c.args.query c.requires.queries c.requires.window)
+pub cell-requires-clause-point : goal.cell-requires-clause-point
+cell-requires-clause-point g c = root-point g.B.BatchName.batch c.facts.ensures.lawful g.B.BatchName.opening c.args.query c.requires.queries c.requires.window
 
-pub hear-requires-clause-point : goal.hear-requires-clause-point
-hear-requires-clause-point g c = root-point g.B.BatchName.batch c.facts.ensures g.B.BatchName.opening c.args.query c.requires.queries c.requires.window
+pub cell-requires-clause-start : goal.cell-requires-clause-start
+cell-requires-clause-start g c = asked-starts g.B.BatchName.batch c.facts.ensures.lawful g.B.BatchName.opening c.args.query c.requires.queries c.requires.window c.requires.site c.turn_to.new.self c.args.asking.now.memo c.turn_to.ensures.turned
 
-pub hear-requires-clause-needed : goal.hear-requires-clause-needed
-hear-requires-clause-needed g c =
+pub note-requires-clause-point : goal.note-requires-clause-point
+note-requires-clause-point g c = root-point g.B.BatchName.batch c.facts.ensures.lawful g.B.BatchName.opening c.args.query c.requires.queries c.requires.window
+
+pub note-requires-clause-cell : goal.note-requires-clause-cell
+note-requires-clause-cell g c =
     let b = g.B.BatchName.batch in
-    let q = c.args.query in
-    subst (λ (a : AskedMemo). IsEvaluable b.circuit q.signal q.from → IsNeededBy b a.query (point_at q.signal q.from)) (sym c.turn_to.ensures.turned)
-    (root-needed b c.facts.ensures g.B.BatchName.opening q c.requires.queries c.requires.window c.requires.site)
+    let root = point_at c.args.query.signal c.args.query.from in
+    some-of (λ (x : Cell). x ≡ cell_at b.circuit root) c.in_ok-cell.field-0 c.in-Some.cell c.in_ok-cell.ensures.cell c.in-Some.is
+
+pub note-requires-clause-covered : goal.note-requires-clause-covered
+note-requires-clause-covered g c =
+    asked-covered g.B.BatchName.batch c.facts.ensures.lawful g.B.BatchName.opening c.args.query c.requires.queries c.requires.window c.requires.site c.turn_to.new.self c.args.asking.now.memo c.turn_to.ensures.turned c.cell.new.self (is_missing c.in_ok-cell.field-0) c.in_ok-cell.ensures.asked false (ap is_missing c.in-Some.is) refl
 
 pub returns-in_default : goal.returns-in_default
 returns-in_default g c =
@@ -42,11 +44,11 @@ returns-in_default g c =
     let opening = g.B.BatchName.opening in
     let q = c.args.query in
     let ms = c.args.asking.now.memo in
-    let heard = c.hear.new.asking in
-    let on = turned-asking b opening c.turn_to.new.self ms q c.turn_to.ensures.turned heard (is_missing c.in_ok-cell.field-0) true (ap is_missing c.in_default.is) c.in_ok-cell.ensures.asks in
+    let heard = c.cell.new.self in
+    let on = asked-on b c.facts.ensures.lawful opening q c.requires.queries c.requires.window c.requires.site c.turn_to.new.self ms c.turn_to.ensures.turned heard (is_missing c.in_ok-cell.field-0) c.in_ok-cell.ensures.asked true (ap is_missing c.in_default.is) c.cell.ensures.query in
     record {
-      journals = journals-grown b c.facts.ensures opening q c.requires.queries c.requires.window ms c.in_ok-turn_to.ensures.free c.requires.unused heard.memo true on.asks;
-      outcome = answers-budget b c.facts.ensures opening q c.requires.queries c.requires.window ms c.in_ok-turn_to.ensures.free c.requires.unused heard.memo true on.asks refl;
+      journals = journals-grown b c.facts.ensures.lawful opening q c.requires.queries c.requires.window ms c.in_ok-turn_to.ensures.free c.requires.unused heard.memo true on.asks;
+      outcome = answers-budget b c.facts.ensures.lawful opening q c.requires.queries c.requires.window ms c.in_ok-turn_to.ensures.free c.requires.unused heard.memo true on.asks refl;
       asks = on.asks;
     }
 
@@ -56,9 +58,9 @@ gather-requires-clause-known g c =
     let opening = g.B.BatchName.opening in
     let q = c.args.query in
     let ms = c.args.asking.now.memo in
-    let heard = c.hear.new.asking in
-    let on = turned-asking b opening c.turn_to.new.self ms q c.turn_to.ensures.turned heard (is_missing c.in_ok-cell.field-0) false (ap is_missing c.in-Some.is) c.in_ok-cell.ensures.asks in
-    subst (Contains b.queries) (sym on.query) (known b c.facts.ensures opening q c.requires.queries c.requires.window)
+    let heard = c.cell.new.self in
+    let on = asked-on b c.facts.ensures.lawful opening q c.requires.queries c.requires.window c.requires.site c.turn_to.new.self ms c.turn_to.ensures.turned heard (is_missing c.in_ok-cell.field-0) c.in_ok-cell.ensures.asked false (ap is_missing c.in-Some.is) c.cell.ensures.query in
+    subst (Contains b.queries) (sym on.query) (known b c.facts.ensures.lawful opening q c.requires.queries c.requires.window)
 
 pub gather-requires-clause-gathered : goal.gather-requires-clause-gathered
 gather-requires-clause-gathered g c =
@@ -66,15 +68,13 @@ gather-requires-clause-gathered g c =
     let opening = g.B.BatchName.opening in
     let q = c.args.query in
     let ms = c.args.asking.now.memo in
-    let heard = c.hear.new.asking in
-    let on = turned-asking b opening c.turn_to.new.self ms q c.turn_to.ensures.turned heard (is_missing c.in_ok-cell.field-0) false (ap is_missing c.in-Some.is) c.in_ok-cell.ensures.asks in
-    let es = entries_of c.turn_to.new.self.memo in
-    let fs = entries_of heard.memo in
+    let heard = c.cell.new.self in
+    let on = asked-on b c.facts.ensures.lawful opening q c.requires.queries c.requires.window c.requires.site c.turn_to.new.self ms c.turn_to.ensures.turned heard (is_missing c.in_ok-cell.field-0) c.in_ok-cell.ensures.asked false (ap is_missing c.in-Some.is) c.cell.ensures.query in
+    let now = entries_of heard.memo in
     let before = get place_cmp c.new-waiting.result.cells in
-    let after = get place_cmp c.hear.new.waiting.cells in
-    let looks = subst (λ o. OnSome o (Looks b.circuit es fs before after (Some (point_at q.signal q.from) ∷ []))) c.in-Some.is c.in_ok-cell.ensures.looks in
-    subst (λ (k : Query). AreGathered b k fs [] after) (sym on.query)
-    (begins b c.facts.ensures q (known b c.facts.ensures opening q c.requires.queries c.requires.window) es fs before after c.new-waiting.ensures (root-needed b c.facts.ensures opening q c.requires.queries c.requires.window c.requires.site) looks)
+    let after = get place_cmp c.note.new.waiting.cells in
+    subst (λ (k : Query). AreGathered b k now [] after) (sym on.query)
+    (begins b c.facts.ensures.lawful q (known b c.facts.ensures.lawful opening q c.requires.queries c.requires.window) now before after c.new-waiting.ensures (root-needed b c.facts.ensures.lawful opening q c.requires.queries c.requires.window c.requires.site) c.in_ok-note.ensures)
 
 pub returns-in-None : goal.returns-in-None
 returns-in-None g c =
@@ -82,13 +82,13 @@ returns-in-None g c =
     let opening = g.B.BatchName.opening in
     let q = c.args.query in
     let ms = c.args.asking.now.memo in
-    let heard = c.hear.new.asking in
-    let on = turned-asking b opening c.turn_to.new.self ms q c.turn_to.ensures.turned heard (is_missing c.in_ok-cell.field-0) false (ap is_missing c.in-Some.is) c.in_ok-cell.ensures.asks in
+    let heard = c.cell.new.self in
+    let on = asked-on b c.facts.ensures.lawful opening q c.requires.queries c.requires.window c.requires.site c.turn_to.new.self ms c.turn_to.ensures.turned heard (is_missing c.in_ok-cell.field-0) c.in_ok-cell.ensures.asked false (ap is_missing c.in-Some.is) c.cell.ensures.query in
     let new = c.gather.new.asking in
     let all = asking-then b opening (record { memo = ms; query = q }) heard new true on (subst (λ o. GoesOnAsking b opening heard new (is_missing o)) c.in-None.is c.in_ok-gather.ensures.asks) in
     record {
-      journals = journals-grown b c.facts.ensures opening q c.requires.queries c.requires.window ms c.in_ok-turn_to.ensures.free c.requires.unused new.memo true all.asks;
-      outcome = answers-budget b c.facts.ensures opening q c.requires.queries c.requires.window ms c.in_ok-turn_to.ensures.free c.requires.unused new.memo true all.asks refl;
+      journals = journals-grown b c.facts.ensures.lawful opening q c.requires.queries c.requires.window ms c.in_ok-turn_to.ensures.free c.requires.unused new.memo true all.asks;
+      outcome = answers-budget b c.facts.ensures.lawful opening q c.requires.queries c.requires.window ms c.in_ok-turn_to.ensures.free c.requires.unused new.memo true all.asks refl;
       asks = all.asks;
     }
 
@@ -98,8 +98,8 @@ returns-in-Some-2 g c =
     let opening = g.B.BatchName.opening in
     let q = c.args.query in
     let ms = c.args.asking.now.memo in
-    let heard = c.hear.new.asking in
-    let on = turned-asking b opening c.turn_to.new.self ms q c.turn_to.ensures.turned heard (is_missing c.in_ok-cell.field-0) false (ap is_missing c.in-Some.is) c.in_ok-cell.ensures.asks in
+    let heard = c.cell.new.self in
+    let on = asked-on b c.facts.ensures.lawful opening q c.requires.queries c.requires.window c.requires.site c.turn_to.new.self ms c.turn_to.ensures.turned heard (is_missing c.in_ok-cell.field-0) c.in_ok-cell.ensures.asked false (ap is_missing c.in-Some.is) c.cell.ensures.query in
     let new = c.gather.new.asking in
     let more = subst (λ o. GoesOnAsking b opening heard new (is_missing o)) c.in-Some-2.is c.in_ok-gather.ensures.asks in
     let all = asking-then b opening (record { memo = ms; query = q }) heard new false on more in
@@ -107,12 +107,13 @@ returns-in-Some-2 g c =
     let lines = c.in-Some-2.lines in
     let root = point_at q.signal q.from in
     let right = some-of (λ (x : Cell). x ≡ cell_at b.circuit root) c.in_ok-cell.field-0 cell c.in_ok-cell.ensures.cell c.in-Some.is in
-    let covered = asking-covers b opening heard new false more root (subst (λ o. OnSome o (IsCovered b.circuit (entries_of heard.memo) root)) c.in-Some.is c.in_ok-cell.ensures.covered) in
+    let covered = asking-covers b opening heard new false more root
+    (asked-covered b c.facts.ensures.lawful opening q c.requires.queries c.requires.window c.requires.site c.turn_to.new.self ms c.turn_to.ensures.turned heard (is_missing c.in_ok-cell.field-0) c.in_ok-cell.ensures.asked false (ap is_missing c.in-Some.is) refl) in
     let e = some-of (λ (xs : Vec SignalCell). AreExplained b.circuit (entries_of new.memo) heard.query xs.items) c.in_ok-gather.field-0 lines c.in_ok-gather.ensures.lines c.in-Some-2.is in
     record {
-      journals = journals-grown b c.facts.ensures opening q c.requires.queries c.requires.window ms c.in_ok-turn_to.ensures.free c.requires.unused new.memo false all.asks;
+      journals = journals-grown b c.facts.ensures.lawful opening q c.requires.queries c.requires.window ms c.in_ok-turn_to.ensures.free c.requires.unused new.memo false all.asks;
       outcome = subst (λ (cells : List SignalCell). Explains b.circuit (entries_of new.memo) q cells cell.value) (sym c.from_vec.ensures)
-          (answers-proof b c.facts.ensures opening q c.requires.queries c.requires.window ms c.in_ok-turn_to.ensures.free c.requires.unused new.memo false all.asks refl cell lines.items right covered
+          (answers-proof b c.facts.ensures.lawful opening q c.requires.queries c.requires.window ms c.in_ok-turn_to.ensures.free c.requires.unused new.memo false all.asks refl cell lines.items right covered
           (subst (λ (k : Query). AreExplained b.circuit (entries_of new.memo) k lines.items) on.query e));
       asks = all.asks;
     }

@@ -22,7 +22,7 @@ answer_one-requires-clause-counts g c =
     let w = c.requires.fed in
     let n = c.requires.count in
     let high : c.loop-k.k < length c.args.fed.now = let t = c.loop-k-test.true in omega arith in
-    (walk-fed g.B.BatchName.batch c.facts.ensures w.0 w.1.0 c.args.queries.now c.requires.queries c.loop-k.k c.loop-k-test.true _ c.args.fed.now high _ (shards_in c.loop-k.asking.memo) c.loop-k.outcomes.items (c.loop-k.invariant.walked w.0 w.1.0 w.1.1)).counts
+    (walk-fed g.B.BatchName.batch c.facts.ensures.lawful w.0 w.1.0 c.args.queries.now c.requires.queries c.loop-k.k c.loop-k-test.true _ c.args.fed.now high _ (shards_in c.loop-k.asking.memo) c.loop-k.outcomes.items (c.loop-k.invariant.walked w.0 w.1.0 w.1.1)).counts
 
 pub loop-k-preserved : goal.loop-k-preserved
 loop-k-preserved g c =
@@ -38,9 +38,9 @@ loop-k-preserved g c =
     record {
       walked = λ start first h.
           let was = c.loop-k.invariant.walked start first h in
-          let f = walk-fed b c.facts.ensures start first qs c.requires.queries k c.loop-k-test.true _ fs high _ (shards_in now) c.loop-k.outcomes.items was in
+          let f = walk-fed b c.facts.ensures.lawful start first qs c.requires.queries k c.loop-k-test.true _ fs high _ (shards_in now) c.loop-k.outcomes.items was in
           subst (λ (rs : List (Outcome (List Run))). IsWalking b start first (shards_in new) (take (k + 1) qs) rs (drop (k + 1) qs) (drop (k + 1) fs)) (sym c.in_ok-push.ensures.items)
-          (walk-next b c.facts.ensures start first qs c.requires.queries k c.loop-k-test.true _ fs high (record { charge = 0; refused = false }) g.B.BatchName.opening (shards_in now) (shards_in new) c.loop-k.outcomes.items r was (c.in_ok-outcome.ensures.settles start f) c.in_ok-outcome.ensures.outcome);
+          (walk-next b c.facts.ensures.lawful start first qs c.requires.queries k c.loop-k-test.true _ fs high (record { charge = 0; refused = false }) g.B.BatchName.opening (shards_in now) (shards_in new) c.loop-k.outcomes.items r was (c.in_ok-outcome.ensures.settles start f) c.in_ok-outcome.ensures.outcome);
       asks = subst (λ (rs : List (Outcome (List Run))). WalksTo b g.B.BatchName.opening qs (shards_in c.args.asking.now.memo) fs (shards_in new) (k + 1) rs) (sym c.in_ok-push.ensures.items)
           (turn-next b g.B.BatchName.opening qs (shards_in c.args.asking.now.memo) fs (shards_in now) (shards_in new) k no_query (record { charge = 0; refused = false }) c.loop-k.outcomes.items r c.loop-k-test.true high c.loop-k.invariant.asks c.in_ok-outcome.ensures.asks);
     }
@@ -49,7 +49,7 @@ pub returns-clause-settled : goal.returns-clause-settled
 returns-clause-settled g c = λ start first h.
     let t = c.loop-k-test.false in
     let n = c.requires.count in
-    walk-last g.B.BatchName.batch c.facts.ensures start first c.args.queries.now c.requires.queries (shards_in c.loop-k.asking.memo) c.loop-k.k c.loop-k.outcomes.items c.args.fed.now (omega arith) (omega arith) (c.loop-k.invariant.walked start first h)
+    walk-last g.B.BatchName.batch c.facts.ensures.lawful start first c.args.queries.now c.requires.queries (shards_in c.loop-k.asking.memo) c.loop-k.k c.loop-k.outcomes.items c.args.fed.now (omega arith) (omega arith) (c.loop-k.invariant.walked start first h)
 
 pub returns-clause-asks : goal.returns-clause-asks
 returns-clause-asks g c =

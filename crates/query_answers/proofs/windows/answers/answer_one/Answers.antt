@@ -16,7 +16,7 @@ returns-then-fed-clause-settles g c = λ start k.
     let q = c.args.q in
     let ms = c.args.asking.now.memo in
     subst (λ (a : AskedMemo). SettlesQuery b opening q start (shards_in ms) (standing a.memo true)) (sym c.turn_to.ensures.turned)
-    (walks-refused b c.facts.ensures opening q c.requires.known start ms c.args.fed c.in_ok-turn_to.ensures.free.fresh c.if-fed.true k)
+    (walks-refused b c.facts.ensures.lawful opening q c.requires.known start ms c.args.fed c.in_ok-turn_to.ensures.free.fresh c.if-fed.true k)
 
 pub returns-then-fed-clause-asks : goal.returns-then-fed-clause-asks
 returns-then-fed-clause-asks g c =
@@ -32,7 +32,7 @@ returns-in-Some-clause-settles g c = λ start k.
     let ms = c.args.asking.now.memo in
     let turned = c.turn_to.new.self in
     let new = c.settle_window.new.asking in
-    let lawful = c.facts.ensures in
+    let lawful = c.facts.ensures.lawful in
     let fresh = c.in_ok-turn_to.ensures.free.fresh in
     let on = turned-asking b opening turned ms q c.turn_to.ensures.turned new (is_missing c.in_ok-runs.field-0) false (ap is_missing c.in-Some.is) c.in_ok-runs.ensures.asks in
     let s = walk-begins b lawful opening q c.requires.known start ms c.args.fed fresh c.if-fed.false k in
@@ -59,7 +59,7 @@ returns-in-None-clause-settles g c = λ start k.
     let ms = c.args.asking.now.memo in
     let turned = c.turn_to.new.self in
     let new = c.settle_window.new.asking in
-    let lawful = c.facts.ensures in
+    let lawful = c.facts.ensures.lawful in
     let fresh = c.in_ok-turn_to.ensures.free.fresh in
     let on = turned-asking b opening turned ms q c.turn_to.ensures.turned new (is_missing c.in_ok-runs.field-0) true (ap is_missing c.in-None.is) c.in_ok-runs.ensures.asks in
     let s = walk-begins b lawful opening q c.requires.known start ms c.args.fed fresh c.if-fed.false k in

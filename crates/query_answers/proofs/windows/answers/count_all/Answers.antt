@@ -44,11 +44,11 @@ loop-q-preserved g c =
     let known : HaveCounted (entries_of ms) c.deref.result.now = subst (λ (parts : List FillCounts). HaveCounted (entries_of ms) parts) (sym c.deref.ensures.value) (subst (λ (l : List KeptShard). HaveCounted (entries_of l) c.in_ok-fills.fills.items) c.in_ok-shards.ensures.shards c.in_ok-fills.ensures) in
     let fills : c.filled_by.result ≡ min (fill_count (entries_of ms) q.number) 4294967295 = c.filled_by.ensures ∙ known q.number in
     let counts : f.charge ≡ charge_of (entries_of ms) q = c.charge_counted-charge.ensures (fill_count (entries_of ms) q.number) fills in
-    let o = fed-open b c.facts.ensures (entries_of ms) ss qs c.requires.queries i low no_query ss c.loop-q.fed.items c.loop-q.invariant.fed in
-    let k = feeds-heard b c.facts.ensures opening q (fed-known b c.facts.ensures (entries_of ms) ss qs c.requires.queries i low no_query) ms f c.in_ok-shards.ensures.free.fresh c.requires.heard refl counts o in
+    let o = fed-open b c.facts.ensures.lawful (entries_of ms) ss qs c.requires.queries i low no_query ss c.loop-q.fed.items c.loop-q.invariant.fed in
+    let k = feeds-heard b c.facts.ensures.lawful opening q (fed-known b c.facts.ensures.lawful (entries_of ms) ss qs c.requires.queries i low no_query) ms f c.in_ok-shards.ensures.free.fresh c.requires.heard refl counts o in
     record {
       fed = subst (λ (fs : List Fed). IsFeeding b (entries_of ms) ss ss (take (i + 1) qs) fs (drop (i + 1) qs)) (sym c.in_ok-push.ensures.items)
-          (fed-next b c.facts.ensures (entries_of ms) ss qs c.requires.queries i low no_query ss ss c.loop-q.fed.items f c.loop-q.invariant.fed k);
+          (fed-next b c.facts.ensures.lawful (entries_of ms) ss qs c.requires.queries i low no_query ss ss c.loop-q.fed.items f c.loop-q.invariant.fed k);
       asks = subst (λ (fs : List Fed). VisitsTo b opening qs ss ss (i + 1) fs) (sym c.in_ok-push.ensures.items)
           (visit-next b opening qs ss ss ss i no_query c.loop-q.fed.items f low c.loop-q.invariant.asks Nothing);
     }
@@ -56,7 +56,7 @@ loop-q-preserved g c =
 pub returns-clause-fed : goal.returns-clause-fed
 returns-clause-fed g c =
     let ms = c.args.asking.now.memo in
-    fed-last g.B.BatchName.batch c.facts.ensures (entries_of ms) (shards_in ms) c.args.queries.now c.requires.queries (shards_in ms) c.loop-q.q-index c.loop-q.fed.items (let t = c.loop-q-test.false in omega arith) c.loop-q.invariant.fed
+    fed-last g.B.BatchName.batch c.facts.ensures.lawful (entries_of ms) (shards_in ms) c.args.queries.now c.requires.queries (shards_in ms) c.loop-q.q-index c.loop-q.fed.items (let t = c.loop-q-test.false in omega arith) c.loop-q.invariant.fed
 
 pub returns-clause-asks : goal.returns-clause-asks
 returns-clause-asks g c =

@@ -32,8 +32,8 @@ returns g c =
     record {
       feeds = λ start o points.
           let s = begins-query b opening q start (shards_in ms) c.in_ok-turn_to.ensures.free.fresh o in
-          feeds b c.facts.ensures opening q c.requires.known start ms new.memo (record { charge = c.charge.result; refused = refused })
-          (asks-advance b c.facts.ensures opening q start (shards_in ms) (shards_in ms) false (shards_in new.memo) refused refl on.asks s)
+          feeds b c.facts.ensures.lawful opening q c.requires.known start ms new.memo (record { charge = c.charge.result; refused = refused })
+          (asks-advance b c.facts.ensures.lawful opening q start (shards_in ms) (shards_in ms) false (shards_in new.memo) refused refl on.asks s)
           (λ e. subst (λ (xs : List Point). All (IsVisited b.circuit (entries_of new.memo)) xs) points (c.in_ok-refused.ensures.visited e))
           (c.charge.ensures ∙ ap (charge_of (entries_of new.memo)) on.query);
       asks = on.asks;

@@ -29,7 +29,7 @@ feed_one-requires-clause-needed g c =
     let i = c.loop-q.q-index in
     let q = get_or qs i no_query in
     let points : c.of.result.now ≡ fills_of (entries_of first) q.number = c.of.ensures ∙ c.in_ok-gathered.ensures q.number ∙ ap (λ l. fills_of (entries_of l) q.number) c.in_ok-shards.ensures.shards in
-    fed-needed b c.facts.ensures (entries_of first) (shards_in first) qs c.requires.queries i c.loop-q-test.true no_query c.of.result.now points g.B.BatchName.opening c.in_ok-shards.ensures.free.fresh refl
+    fed-needed b c.facts.ensures.lawful (entries_of first) (shards_in first) qs c.requires.queries i c.loop-q-test.true no_query c.of.result.now points g.B.BatchName.opening c.in_ok-shards.ensures.free.fresh refl
 
 pub feed_one-requires-clause-counts : goal.feed_one-requires-clause-counts
 feed_one-requires-clause-counts g c =
@@ -39,7 +39,7 @@ feed_one-requires-clause-counts g c =
     let i = c.loop-q.q-index in
     let q = get_or qs i no_query in
     let points : c.of.result.now ≡ fills_of (entries_of first) q.number = c.of.ensures ∙ c.in_ok-gathered.ensures q.number ∙ ap (λ l. fills_of (entries_of l) q.number) c.in_ok-shards.ensures.shards in
-    fed-count b c.facts.ensures (entries_of first) (shards_in first) qs c.requires.queries i c.loop-q-test.true no_query c.of.result.now points (shards_in c.loop-q.asking.memo) c.loop-q.fed.items c.loop-q.invariant.fed
+    fed-count b c.facts.ensures.lawful (entries_of first) (shards_in first) qs c.requires.queries i c.loop-q-test.true no_query c.of.result.now points (shards_in c.loop-q.asking.memo) c.loop-q.fed.items c.loop-q.invariant.fed
 
 pub loop-q-preserved : goal.loop-q-preserved
 loop-q-preserved g c =
@@ -52,11 +52,11 @@ loop-q-preserved g c =
     let q = get_or qs i no_query in
     let f = c.in_ok-one.one in
     let points : c.of.result.now ≡ fills_of (entries_of first) q.number = c.of.ensures ∙ c.in_ok-gathered.ensures q.number ∙ ap (λ l. fills_of (entries_of l) q.number) c.in_ok-shards.ensures.shards in
-    let o = fed-open b c.facts.ensures (entries_of first) (shards_in first) qs c.requires.queries i c.loop-q-test.true no_query (shards_in now) c.loop-q.fed.items c.loop-q.invariant.fed in
+    let o = fed-open b c.facts.ensures.lawful (entries_of first) (shards_in first) qs c.requires.queries i c.loop-q-test.true no_query (shards_in now) c.loop-q.fed.items c.loop-q.invariant.fed in
     let k = c.in_ok-one.ensures.feeds (entries_of first) o points in
     record {
       fed = subst (λ (fs : List Fed). IsFeeding b (entries_of first) (shards_in first) (shards_in new) (take (i + 1) qs) fs (drop (i + 1) qs)) (sym c.in_ok-push.ensures.items)
-          (fed-next b c.facts.ensures (entries_of first) (shards_in first) qs c.requires.queries i c.loop-q-test.true no_query (shards_in now) (shards_in new) c.loop-q.fed.items f c.loop-q.invariant.fed k);
+          (fed-next b c.facts.ensures.lawful (entries_of first) (shards_in first) qs c.requires.queries i c.loop-q-test.true no_query (shards_in now) (shards_in new) c.loop-q.fed.items f c.loop-q.invariant.fed k);
       asks = subst (λ (fs : List Fed). VisitsTo b g.B.BatchName.opening qs (shards_in first) (shards_in new) (i + 1) fs) (sym c.in_ok-push.ensures.items)
           (visit-next b g.B.BatchName.opening qs (shards_in first) (shards_in now) (shards_in new) i no_query c.loop-q.fed.items f c.loop-q-test.true c.loop-q.invariant.asks c.in_ok-one.ensures.asks);
     }
@@ -64,7 +64,7 @@ loop-q-preserved g c =
 pub returns-clause-fed : goal.returns-clause-fed
 returns-clause-fed g c =
     let first = c.args.asking.now.memo in
-    fed-last g.B.BatchName.batch c.facts.ensures (entries_of first) (shards_in first) c.args.queries.now c.requires.queries (shards_in c.loop-q.asking.memo) c.loop-q.q-index c.loop-q.fed.items (let t = c.loop-q-test.false in omega arith) c.loop-q.invariant.fed
+    fed-last g.B.BatchName.batch c.facts.ensures.lawful (entries_of first) (shards_in first) c.args.queries.now c.requires.queries (shards_in c.loop-q.asking.memo) c.loop-q.q-index c.loop-q.fed.items (let t = c.loop-q-test.false in omega arith) c.loop-q.invariant.fed
 
 pub returns-clause-asks : goal.returns-clause-asks
 returns-clause-asks g c =

@@ -7,16 +7,17 @@ use Rattle.design.specs.PinWalks.{LooksOn, looked_at, next_point}
 use Rattle.plan_core.specs.asked.Memos.{entries_of, is_missing}
 use Rattle.plan_core.specs.asked.Sources.{IsSourceCovered}
 use Rattle.plan_core.proofs.Callers.{some-of, pins-visited}
+use Rattle.query_answers.specs.declared.asking.Looked.{Looked}
 use Rattle.query_answers.specs.asking.inner.AskedMemos.{GoesOnAsking}
 use Rattle.query_answers.proofs.AskedOn.{asking-stays, asking-then, asking-covers}
 use Rattle.query_answers.proofs.Pins.{needed-has, needed-point, source-kept}
 use Rattle.query_answers.proofs.windows.visits.settle_children.Goals as goal
 
 pub pins_of-walk-requires-clause-point : goal.pins_of-walk-requires-clause-point
-pins_of-walk-requires-clause-point g c = needed-point g.B.BatchName.batch c.facts.ensures c.args.asking.now.query c.requires.known c.args.p c.requires.needed c.requires.site
+pins_of-walk-requires-clause-point g c = needed-point g.B.BatchName.batch c.facts.ensures.lawful c.args.asking.now.query c.requires.known c.args.p c.requires.needed c.requires.site
 
 pub pins_of-walk-requires-clause-evaluable : goal.pins_of-walk-requires-clause-evaluable
-pins_of-walk-requires-clause-evaluable g c = needed-has g.B.BatchName.batch c.facts.ensures c.args.asking.now.query c.requires.known c.args.p c.requires.needed c.requires.site
+pins_of-walk-requires-clause-evaluable g c = needed-has g.B.BatchName.batch c.facts.ensures.lawful c.args.asking.now.query c.requires.known c.args.p c.requires.needed c.requires.site
 
 pub pins-init : goal.pins-init
 pins-init g c = record {
@@ -37,7 +38,7 @@ look-requires-clause-needed g c =
 pub returns-in-None-clause-asks : goal.returns-in-None-clause-asks
 returns-in-None-clause-asks g c =
     let b = g.B.BatchName.batch in
-    let new = c.look.new.asking in
+    let new = c.look.new.self in
     asking-then b g.B.BatchName.opening c.args.asking.now c.pins.asking new true c.pins.invariant.asks
     (subst (λ o. GoesOnAsking b g.B.BatchName.opening c.pins.asking new (is_missing o)) c.in-None.is c.in_ok-look.ensures.asks)
 
@@ -45,8 +46,8 @@ pub pins-preserved : goal.pins-preserved
 pins-preserved g c =
     let b = g.B.BatchName.batch in
     let mid = c.pins.asking in
-    let new = c.look.new.asking in
-    let on = some-of (LooksOn b.circuit c.pins.walk) c.in_ok-look.field-0 c.in-Some.next c.in_ok-look.ensures.walk c.in-Some.is in
+    let new = c.look.new.self in
+    let on = some-of (λ (l : Looked). LooksOn b.circuit c.pins.walk l.walk) c.in_ok-look.field-0 c.in-Some.looked c.in_ok-look.ensures.walk c.in-Some.is in
     let more = subst (λ o. GoesOnAsking b g.B.BatchName.opening mid new (is_missing o)) c.in-Some.is c.in_ok-look.ensures.asks in
     let sources = looked_at b.circuit c.args.p in
     record {

@@ -45,7 +45,7 @@ cell-requires-clause-start g c =
     let known : Contains b.queries q = subst (Contains b.queries) (sym c.query-q.ensures) c.requires.known in
     let mid = c.roots.asking in
     let same : mid.query ≡ q = i.asks.query ∙ sym c.query-q.ensures in
-    root-starts b c.facts.ensures opening c.requires.site q known mid same t root
+    root-starts b c.facts.ensures.lawful opening c.requires.site q known mid same t root
 
 pub returns-in_default-2-clause-asks : goal.returns-in_default-2-clause-asks
 returns-in_default-2-clause-asks g c =
@@ -64,7 +64,7 @@ returns-in_default-2-clause-asks g c =
     let new = c.cell.new.self in
     asking-then b opening c.args.asking.now mid new true i.asks
     (subst (λ o. GoesOnAsking b opening mid new (is_missing o)) c.in_default-2.is
-    (root-goes-on b c.facts.ensures opening c.requires.site q known mid same t root new (is_missing c.in_ok-cell.field-0) c.in_ok-cell.ensures.asked c.cell.ensures.query))
+    (root-goes-on b c.facts.ensures.lawful opening c.requires.site q known mid same t root new (is_missing c.in_ok-cell.field-0) c.in_ok-cell.ensures.asked c.cell.ensures.query))
 
 pub roots-smaller : goal.roots-smaller
 roots-smaller g c =
@@ -73,9 +73,9 @@ roots-smaller g c =
     let t = c.in-Some.time in
     let next = c.in-Some.ensures.some in
     let stop = c.roots.invariant.stop in
-    let w = within-of b c.facts.ensures q (subst (Contains b.queries) (sym c.query-q.ensures) c.requires.known) in
+    let w = within-of b c.facts.ensures.lawful q (subst (Contains b.queries) (sym c.query-q.ensures) c.requires.known) in
     let right : c.in-Some-2.cell ≡ cell_at b.circuit (at_time q t) = some-of (λ (x : Cell). x ≡ cell_at b.circuit (at_time q t)) c.in_ok-cell.field-0 c.in-Some-2.cell c.in_ok-cell.ensures.cell c.in-Some-2.is in
-    let later : t < (span b.circuit q.signal t).stop = (cell-covers b.circuit c.facts.ensures.circuit t q.signal (omega (arith, next.0, next.1, stop, w))).inside.high in
+    let later : t < (span b.circuit q.signal t).stop = (cell-covers b.circuit c.facts.ensures.lawful.circuit t q.signal (omega (arith, next.0, next.1, stop, w))).inside.high in
     let end : c.push.new.self.time ≡ (span b.circuit q.signal t).stop = c.in_ok-push.ensures.time ∙ ap (λ (x : Cell). x.span.stop) right in
     omega (arith, next.0, next.1, stop, later, end)
 
@@ -95,7 +95,7 @@ roots-preserved g c =
     let same : mid.query ≡ q = i.asks.query ∙ sym c.query-q.ensures in
     let old = c.args.asking.now in
     let new = c.cell.new.self in
-    let lawful = c.facts.ensures in
+    let lawful = c.facts.ensures.lawful in
     let pushed = c.in_ok-push.ensures in
     let right : c.in-Some-2.cell ≡ cell_at b.circuit (at_time q t) = some-of (λ (x : Cell). x ≡ cell_at b.circuit (at_time q t)) c.in_ok-cell.field-0 c.in-Some-2.cell c.in_ok-cell.ensures.cell c.in-Some-2.is in
     let end : c.push.new.self.time ≡ (span b.circuit q.signal t).stop = pushed.time ∙ ap (λ (x : Cell). x.span.stop) right in
