@@ -108,6 +108,22 @@ def test_a_window(compared, tmp_path) -> None:
     assert (tmp_path / "w").read_text().startswith("# unit 1 ns\nversion 2\nclock clk 25 20\n")
 
 
+def test_a_dump_that_begins_late(write, program, tools) -> None:
+    # q is 1 from the beginning on here, and so is m; what was dumped from 40 on has q 0 up to the edge at 85, the first after a is 1
+    netlist, timing = write("n", "INPUT(a)\nOUTPUT(q)\nm = OR(q, a)\nq = DFF(m)\n"), write("t", "clock 5 20\ninit q 1\n")
+    late = write("d", "$timescale 1 ns $end\n$scope module top $end\n$var wire 1 ! a $end\n$var wire 1 % q $end\n$var wire 1 & m $end\n$upscope $end\n"
+                 "$enddefinitions $end\n#40\n$dumpvars\n0!\n0%\n0&\n$end\n#70\n1!\n#71\n1&\n#86\n1%\n#99\n")
+    run = tools("compare", netlist, timing, late, "top", "--program", program)
+    assert run.returncode == 1 and run.stderr.decode() == \
+        f"{late}: nothing is dumped before 40, and flip-flops begin at 0 here: --from 40 takes their values from the dump\n"
+    run = tools("compare", netlist, timing, late, "top", "--program", program, "--from", 40)
+    assert run.returncode == 0 and b"nothing is dumped" not in run.stderr
+    early = write("e", "$timescale 1 ns $end\n$scope module top $end\n$var wire 1 ! a $end\n$var wire 1 % q $end\n$upscope $end\n"
+                  "$enddefinitions $end\n#0\n0!\n0%\n#40\n")
+    run = tools("compare", netlist, timing, early, "top", "--program", program)
+    assert (run.returncode, run.stderr) == (1, b"")
+
+
 def test_a_unit_finer_than_the_tick(write, program, tools) -> None:
     """A tick of 1 ns is 100 units of 10 ps; gates take 20 ps, so all has settled before each edge, and in the window too."""
     timing = write("t", TIMING.replace("unit 1 ns", "unit 10 ps").replace("clock clk 10 20", "clock clk 1000 2000").replace("default 1", "default 2"))

@@ -79,6 +79,7 @@ def run(arguments: argparse.Namespace) -> int:
                          "leaves more time to delays of 1; `backsim-tools settled` with the --stimulus FILE tells paths that are too long; with a dump that has "
                          "the delays of the timing file take --every-time")
     bits: dict[str, Changes] = {name: dump.in_units(changes) for name, changes in dump.bits({*netlist.inputs, *wanted}).items()}
+    dumped_from = min((changes[0][0] for changes in bits.values() if changes), default=0)
     if arguments.every_time:
         bits = without_further_names(netlist, bits)
     bits = {name: bits[name] for name in wanted if name in bits}
@@ -86,6 +87,9 @@ def run(arguments: argparse.Namespace) -> int:
         raise FormatError(arguments.vcd, None, f"no signal of the netlist is dumped in the scope {arguments.scope}")
     with Session(arguments.netlist, timing, stimulus, program=arguments.program) as session:
         found = compare(session, bits, events, times, lost, dump.vcd.ascending(dump.scope))
+    if found.differing and dumped_from and not dump.start and netlist.flops():
+        notes.append(f"{arguments.vcd}: nothing is dumped before {dumped_from}, and flip-flops begin at 0 here: --from {dumped_from} takes their values "
+                     "from the dump")
     for note in notes:
         say(note)
     _tell(found, netlist, dump.start, arguments)
